@@ -1,0 +1,6 @@
+//! Completion queue entries.
+#![tactic(auto)]
+
+mod cqe;
+
+pub use cqe::Cqe;

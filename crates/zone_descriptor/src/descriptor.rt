@@ -1,0 +1,21 @@
+use zns_types::State;
+
+/// A zone, as a report shows it.
+#[derive(Clone, Copy, Debug, PartialEq, Eq)]
+pub struct Descriptor {
+    /// The zone's state.
+    pub state: State,
+
+    /// Bit 0: the controller finished the zone; bit 1: a finish is recommended; bit 2: a reset is
+    /// recommended; bit 3: the zone has a random write area.
+    pub attributes: u8,
+
+    /// The blocks that can be written.
+    pub capacity: u64,
+
+    /// The first block.
+    pub first: u64,
+
+    /// The block at the write pointer, or all ones where the pointer means nothing.
+    pub pointer: u64,
+}

@@ -1,0 +1,6 @@
+//! Zone descriptors.
+#![tactic(auto)]
+
+mod descriptor;
+
+pub use descriptor::Descriptor;
