@@ -1,1 +1,4 @@
 pub mod Commands
+pub mod Reading
+pub mod Ranges
+pub mod Writing

@@ -2,7 +2,12 @@
 #![tactic(auto)]
 
 mod cmd;
+mod lengths;
+mod reading;
 mod sqe;
+mod words;
 
 pub use cmd::Cmd;
+pub use lengths::{reply_len, transfer_len};
+pub use reading::{cid, read};
 pub use sqe::Sqe;

@@ -22,6 +22,7 @@ impl Geometry {
         ensures fields { IfOk result (λ g. g.fields ≡ fields) }
         ensures broken { IfErr result (λ e. first_holding (rules fields) ≡ Some e) }
         ensures kept { first_holding (rules fields) ≡ None → IsOk result }
+        ensures unbroken { IfOk result (λ _. first_holding (rules fields) ≡ None) }
         ensures valid { IsGeometry fields → IsOk result }
     {
         match first_broken(&fields) {

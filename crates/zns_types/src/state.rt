@@ -34,6 +34,7 @@ impl State {
     pub fn of_number(number: u8) -> Option<State>
         ensures found { IfSome result (λ s. number_of s ≡ number) }
         ensures none { IfNone result ((s : State) → number_of s ≢ number) }
+        ensures only { (s : State) → number_of s ≡ number → result ≡ Some s }
     {
         match number {
             0x1 => Some(State::Empty),

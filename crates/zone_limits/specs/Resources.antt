@@ -1,0 +1,69 @@
+-- The resources of zones, and which want of them refuses a command: Zoned Namespace Command Set Specification 1.1,
+-- 2.1.1.2 (active and open resources), with random write areas by Technical Proposal 4076.
+use Rattle.std.specs.Prelude.{ℕ, ◌+◌, ◌-◌, ◌<◌, ◌≤◌, Bool, not, ◌&&◌, ◌==◌, nat_le, if◌then◌else◌, List, [], ◌∷◌}
+use Rattle.zns_types.specs.declared.fields.GeometryFields.{GeometryFields}
+use Rattle.zns_types.specs.Statuses.{Status, too_many_active_zones, too_many_open_zones, zrwa_resources_unavailable}
+use Rattle.zns_types.specs.Rows.{Row, when}
+use Rattle.zone_limits.specs.declared.limits.Limits.{Limits}
+use Rattle.zone_limits.specs.declared.limits.Need.{Need}
+
+-- a limit on active or opened zones is reached; 0 is no limit
+abbrev pub at_limit : ℕ → ℕ → Bool
+at_limit limit count = not (limit == 0) && nat_le limit count
+
+-- so many zones have a random write area as may; 0 is none at all
+abbrev pub windows_used_up : GeometryFields → ℕ → Bool
+windows_used_up g count = nat_le g.windows count
+
+-- The wants that refuse, in their order. An open resource isn't wanting where a zone can be evicted.
+abbrev pub need_rows : GeometryFields → Limits → Need → Bool → List (Row Status)
+need_rows g counts need evictable =
+    when (need.active && at_limit g.active_limit counts.active) too_many_active_zones
+    ∷ when (need.opened && at_limit g.open_limit counts.opened && not evictable) too_many_open_zones
+    ∷ when (need.window && windows_used_up g counts.windows) zrwa_resources_unavailable
+    ∷ []
+
+-- a zone is to be evicted: one more is to be opened at the limit
+abbrev pub evicts : GeometryFields → Limits → Need → Bool
+evicts g counts need = need.opened && at_limit g.open_limit counts.opened
+
+-- one more where it is needed
+abbrev pub more : Bool → ℕ → ℕ
+more needed count = if needed then count + 1 else count
+
+-- one fewer where it is named
+abbrev pub fewer : Bool → ℕ → ℕ
+fewer named count = if named then count - 1 else count
+
+-- the counts with what is needed
+abbrev pub taken : Limits → Need → Limits
+taken counts need = record {
+  active = more need.active counts.active;
+  opened = more need.opened counts.opened;
+  windows = more need.window counts.windows;
+}
+
+-- the counts without what is named
+abbrev pub given_back : Limits → Need → Limits
+given_back counts need = record {
+  active = fewer need.active counts.active;
+  opened = fewer need.opened counts.opened;
+  windows = fewer need.window counts.windows;
+}
+
+-- a count is within a limit; 0 is no limit
+abbrev pub IsWithin : ℕ → ℕ → Type 0
+IsWithin limit count = 1 ≤ limit → count ≤ limit
+
+-- the counts are within the limits, and count zones
+pub record AreWithin (g : GeometryFields) (counts : Limits) : Type 0 where
+  pub active : IsWithin g.active_limit counts.active
+  pub opened : IsWithin g.open_limit counts.opened
+  pub windows : counts.windows ≤ g.windows
+  pub active_zones : counts.active ≤ g.zones
+  pub opened_zones : counts.opened ≤ g.zones
+  pub window_zones : counts.windows ≤ g.zones
+
+-- there is one more
+abbrev pub HasRoom : ℕ → ℕ → Type 0
+HasRoom limit count = 1 ≤ limit → count < limit

@@ -1,0 +1,12 @@
+//! How many zones may be active, be opened and have a random write area at a time.
+#![tactic(auto)]
+
+mod asking;
+mod limits;
+mod taking;
+#[cfg(test)]
+mod tests;
+
+pub use asking::need;
+pub use limits::{Grant, Limits, Need};
+pub use taking::{give_back, take};

@@ -1,0 +1,94 @@
+-- The completion entries that an act posts.
+use Rattle.std.specs.Prelude.{ℕ, ◌+◌, ◌/◌, ◌%◌, ◌^◌, Bool, true, false, not, ◌&&◌, ◌==◌, if◌then◌else◌, List, [], ◌∷◌, Option, Some, None, is_some, is_none}
+use Rattle.zns_types.specs.declared.fields.GeometryFields.{GeometryFields}
+use Rattle.zns_types.specs.Geometry.{zone_of, first}
+use Rattle.zns_types.specs.Statuses.{Status, success, is_success, do_not_retry}
+use Rattle.sqe_codec.specs.declared.cmd.Cmd.{Cmd}
+use Rattle.sqe_codec.specs.declared.cmd.Cmd.TheVariants as cmd
+use Rattle.sqe_codec.specs.Commands.{cid_of}
+use Rattle.cqe_codec.specs.declared.cqe.Cqe.{Cqe}
+use Rattle.zone_model.specs.declared.act.Act.{Act}
+use Rattle.zone_model.specs.Places.{Place, took, command_of, is_excursion, is_event_request, had_excursion, waited, total}
+use Rattle.zone_model.specs.Zones.{one, pointer}
+use Rattle.zone_model.specs.Notices.{enabled}
+use Rattle.zone_model.specs.Answers.{status, fires}
+
+-- the acts of a queue
+unfoldable pub acts_on : ℕ → List Place → ℕ
+acts_on queue h = total (λ p. one (p.act.queue == queue)) h
+
+-- the entries that a place posted on a queue: its own, unless it waits, and on queue 0 that of the event request
+-- that an excursion answered
+abbrev pub posted_on : ℕ → Place → ℕ
+posted_on queue p = one ((p.act.queue == queue) && not (waited p)) + one ((queue == 0) && had_excursion p && is_some p.fired)
+
+unfoldable pub entries_on : ℕ → List Place → ℕ
+entries_on queue h = total (posted_on queue) h
+
+-- the head that a queue's entries show: its acts so far, the newest among them, in a ring of this depth
+abbrev pub head_of : GeometryFields → ℕ → ℕ
+head_of g acts = acts % g.depth
+
+-- the phase tag of a queue's entry number k from 0: 1 in the first turn of the ring, 0 in the second, and so on
+abbrev pub phase_of : GeometryFields → ℕ → Bool
+phase_of g k = k / g.depth % 2 == 0
+
+-- the two dwords of a result
+pub record Result : Type 0 where
+  pub dw0 : ℕ
+  pub dw1 : ℕ
+
+abbrev pub no_result : Result
+no_result = record { dw0 = 0; dw1 = 0 }
+
+-- a block's number, the low half first
+abbrev pub block_result : ℕ → Result
+block_result lba = record { dw0 = lba % 2 ^ 32; dw1 = lba / 2 ^ 32 }
+
+-- zone descriptor changed, and the page that lists the zones; namespace 1
+abbrev pub event_result : Result
+event_result = record { dw0 = 0x00bfef02; dw1 = 1 }
+
+-- what a command that succeeds gives beside its bytes
+abbrev pub result_by : GeometryFields → List Place → Option ℕ → Cmd → Result
+result_by g h fired (cmd.Append nsid zslba blocks) = block_result (first g (zone_of g zslba) + pointer g h (zone_of g zslba))
+result_by g h fired (cmd.GetFeature feature) = record { dw0 = if enabled h then 0x08000000 else 0; dw1 = 0 }
+result_by g h fired cmd.Event = event_result
+result_by g h fired _ = no_result
+
+unfoldable pub result_of : GeometryFields → List Place → Act → Result
+result_of g h a = if is_success (status g h a) then result_by g h (fires g h a) (command_of a) else no_result
+
+-- an entry of a queue, which has had so many acts and entries, for the command with this number
+abbrev pub entry : GeometryFields → ℕ → ℕ → ℕ → ℕ → Status → Result → Cqe
+entry g queue acts entries cid status result = record {
+  dw0 = result.dw0;
+  dw1 = result.dw1;
+  head = head_of g acts;
+  sqid = queue;
+  cid = cid;
+  phase = phase_of g entries;
+  code = status;
+  dnr = do_not_retry status;
+}
+
+-- the act's own entry
+abbrev pub own_entry : GeometryFields → List Place → Act → Cqe
+own_entry g h a = entry g a.queue (acts_on a.queue h + 1) (entries_on a.queue h) (cid_of a.sqe.bytes) (status g h a) (result_of g h a)
+
+-- the entry of an event request on the admin queue that an act there answers: it comes behind the act's own
+abbrev pub event_entry : GeometryFields → List Place → ℕ → Cqe
+event_entry g h cid = entry g 0 (acts_on 0 h + 1) (entries_on 0 h + 1) cid success event_result
+
+-- an event request that succeeds and is not answered at once
+abbrev pub waits : GeometryFields → List Place → Act → Bool
+waits g h a = is_success (status g h a) && is_event_request (command_of a) && is_none (fires g h a)
+
+abbrev pub event_entries : GeometryFields → List Place → Cmd → Option ℕ → List Cqe
+event_entries g h (cmd.Excursion nsid slba kind) (Some cid) = event_entry g h cid ∷ []
+event_entries g h _ _ = []
+
+-- An act posts its own entry, unless it is an event request that waits, and behind it the entry of the event request
+-- that it answers.
+unfoldable pub posted : GeometryFields → List Place → Act → List Cqe
+posted g h a = if waits g h a then [] else own_entry g h a ∷ event_entries g h (command_of a) (fires g h a)

@@ -1,0 +1,10 @@
+pub mod Kept
+pub mod Places
+pub mod Zones
+pub mod Notices
+pub mod Refusals
+pub mod Answers
+pub mod Reports
+pub mod Replies
+pub mod Entries
+pub mod Sessions

@@ -1,0 +1,8 @@
+//! What happens to a zone, and the states that it leads to.
+#![tactic(auto)]
+
+mod action;
+mod transition;
+
+pub use action::Action;
+pub use transition::go;

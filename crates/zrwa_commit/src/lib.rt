@@ -1,0 +1,2 @@
+//! Commits of a random write area.
+#![tactic(auto)]
