@@ -9,7 +9,8 @@ use Rattle.sqe_codec.specs.Commands.{cid_of}
 use Rattle.cqe_codec.specs.declared.cqe.Cqe.{Cqe}
 use Rattle.zone_model.specs.declared.act.Act.{Act}
 use Rattle.zone_model.specs.Places.{Place, took, command_of, is_excursion, is_event_request, had_excursion, waited, total}
-use Rattle.zone_model.specs.Zones.{one, pointer}
+use Rattle.zone_model.specs.Zones.{pointer}
+use Rattle.zone_state.specs.Shown.{one}
 use Rattle.zone_model.specs.Notices.{enabled}
 use Rattle.zone_model.specs.Answers.{status, fires}
 

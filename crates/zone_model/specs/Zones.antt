@@ -8,6 +8,8 @@ use Rattle.zns_types.specs.States.{is_opened, is_active, is_full, is_read_only, 
 use Rattle.zns_types.specs.Geometry.{block_len, first, offset_of}
 use Rattle.zone_state.specs.Transitions.{moved}
 use Rattle.zone_state.specs.ZoneRows.{Zone}
+use Rattle.zone_state.specs.Blocks.{block_at, seen_block}
+use Rattle.zone_state.specs.Shown.{is_writable, shown_pointer, attribute_bits}
 use Rattle.zone_limits.specs.declared.limits.Limits.{Limits}
 use Rattle.zrwa_commit.specs.Least.{least_multiple}
 use Rattle.sqe_codec.specs.declared.cmd.Cmd.{Cmd}
@@ -58,10 +60,6 @@ abbrev pub start_of : GeometryFields → List Place → ℕ → Cmd → ℕ
 start_of g h z (cmd.Write nsid slba blocks) = offset_of g slba
 start_of g h z _ = pointer g h z
 
--- block number n of host data
-abbrev pub block_at : ℕ → List ℕ → ℕ → List ℕ
-block_at len payload n = take len (drop (n * len) payload)
-
 -- The bytes that were last written to a block since the zone's last reset.
 unfoldable pub block : GeometryFields → List Place → ℕ → ℕ → Option (List ℕ)
 block g [] z b = None
@@ -73,10 +71,7 @@ block g (p ∷ h) z b =
     start : ℕ
     start = start_of g h z (command_of p.act)
 
--- a block's bytes, and zeros where none were written
-abbrev pub seen_block : ℕ → Option (List ℕ) → List ℕ
-seen_block len bytes = unwrap_or bytes (replicate len 0)
-
+-- a block as a Read gives it
 abbrev pub seen : GeometryFields → List Place → ℕ → ℕ → List ℕ
 seen g h z b = seen_block (block_len g) (block g h z b)
 
@@ -104,32 +99,14 @@ counts g h = record { active = active g h; opened = opened g h; windows = window
 
 -- ---- descriptors
 
-abbrev pub one : Bool → ℕ
-one b = if b then 1 else 0
-
 -- an excursion of this kind since the last reset
 abbrev pub had : GeometryFields → List Place → ℕ → ℕ → Bool
 had g h kind z = list_any (excursed g kind z) (since h z)
 
--- neither Read Only nor Offline
-abbrev pub is_writable : State → Bool
-is_writable s = not (is_read_only s) && not (is_offline s)
-
 -- Zone Finished by Controller, Finish Zone Recommended, Reset Zone Recommended, and the random write area: Zoned
 -- Namespace Command Set Specification 1.1, 3.4.2.2.1 (Zone Attributes).
 unfoldable pub attributes : GeometryFields → List Place → ℕ → ℕ
-attributes g h z =
-    one (had g h 1 z && is_writable (state g h z))
-    + 2 * one (had g h 2 z && is_active (state g h z))
-    + 4 * one (had g h 3 z && is_writable (state g h z))
-    + 8 * one (window g h z)
-
--- all ones, where a pointer means nothing
-abbrev pub no_pointer : ℕ
-no_pointer = 2 ^ 64 - 1
-
-abbrev pub has_pointer : State → Bool
-has_pointer s = not (is_full s) && is_writable s
+attributes g h z = attribute_bits (had g h 1 z && is_writable (state g h z)) (had g h 2 z && is_active (state g h z)) (had g h 3 z && is_writable (state g h z)) (window g h z)
 
 abbrev pub descriptor : GeometryFields → List Place → ℕ → Descriptor
 descriptor g h z = record {
@@ -137,5 +114,5 @@ descriptor g h z = record {
   attributes = attributes g h z;
   capacity = g.capacity;
   first = first g z;
-  pointer = if has_pointer (state g h z) then first g z + pointer g h z else no_pointer;
+  pointer = shown_pointer (state g h z) (first g z) (pointer g h z);
 }

@@ -1,2 +1,4 @@
 pub mod Transitions
 pub mod ZoneRows
+pub mod Blocks
+pub mod Shown

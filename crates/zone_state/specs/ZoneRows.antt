@@ -5,6 +5,8 @@ use Rattle.zns_types.specs.declared.state.State.{State}
 use Rattle.zns_types.specs.States.{is_full, is_read_only, is_offline}
 use Rattle.zns_types.specs.Statuses.{Status, invalid_field, invalid_zone_operation, zone_boundary_error, zone_full, zone_read_only, zone_offline, zone_invalid_write, invalid_zone_state_transition}
 use Rattle.zns_types.specs.Rows.{Row, when}
+use Rattle.zrwa_commit.specs.Windows.{is_admitted}
+use Rattle.zrwa_commit.specs.Windows as area
 use Rattle.zone_state.specs.declared.action.Action.{Action}
 use Rattle.zone_state.specs.declared.action.Action.TheVariants as action
 use Rattle.zone_state.specs.Transitions.{go}
@@ -22,7 +24,7 @@ closed_to_writes s more = when (is_full s) zone_full ∷ when (is_read_only s) z
 -- a write starts at the pointer; with a random write area it starts there or behind, and ends within two windows
 abbrev pub is_misplaced : GeometryFields → Zone → ℕ → ℕ → Bool
 is_misplaced g zone start end =
-    if zone.window then nat_lt start zone.pointer || nat_lt (zone.pointer + 2 * g.window) end else not (start == zone.pointer)
+    if zone.window then not (is_admitted g zone.pointer start end) else not (start == zone.pointer)
 
 -- a Write of so many blocks from an offset on
 abbrev pub write_rows : GeometryFields → Zone → ℕ → ℕ → List (Row Status)
@@ -55,7 +57,4 @@ open_rows g zone asks_window =
 -- a flush of the random write area up to a last block
 abbrev pub flush_rows : GeometryFields → Zone → ℕ → List (Row Status)
 flush_rows g zone last =
-    when (not zone.window) invalid_zone_operation
-    ∷ when (nat_lt last zone.pointer || nat_le (zone.pointer + g.window) last || nat_le g.capacity last) zone_boundary_error
-    ∷ when (not ((last + 1 - zone.pointer) % g.granule == 0)) invalid_field
-    ∷ []
+    when (not zone.window) invalid_zone_operation ∷ area.flush_rows g zone.pointer last

@@ -1,5 +1,16 @@
--- The least multiple that covers a bound.
-use Rattle.std.specs.Prelude.{ℕ, ◌+◌, ◌-◌, ◌*◌, ◌/◌}
+-- The least number with a property, and the least multiple that reaches a bound.
+use Rattle.std.specs.Prelude.{◌≡◌, ℕ, ◌+◌, ◌*◌, ◌-◌, ◌/◌, ◌≤◌}
 
+-- n has the property, and no smaller number has it
+pub record IsLeast (P : ℕ → Type 0) (n : ℕ) : Type 0 where
+  pub holds : P n
+  pub below : (m : ℕ) → P m → n ≤ m
+
+-- n is a whole number of granules, and bound or more
+pub record IsMultipleFrom (granule bound n : ℕ) : Type 0 where
+  pub multiple : (k : ℕ) × (n ≡ k * granule)
+  pub covers : bound ≤ n
+
+-- the least multiple of a granule that is bound or more
 abbrev pub least_multiple : ℕ → ℕ → ℕ
-least_multiple g bound = (bound + g - 1) / g * g
+least_multiple granule bound = (bound + granule - 1) / granule * granule

@@ -1,0 +1,2 @@
+//! One zone.
+#![tactic(auto)]
