@@ -10,3 +10,6 @@ pub use cqe::Cqe;
 pub use cqe_err::CqeErr;
 pub use reading::read;
 pub use writing::write;
+
+#[cfg(test)]
+mod tests;

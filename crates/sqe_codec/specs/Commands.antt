@@ -1,6 +1,6 @@
 -- The command that an entry spells, by the bits of its dwords: NVM Express Base Specification 2.0, 3.3.3.1, NVM
 -- Command Set Specification 1.0, 3.2, and Zoned Namespace Command Set Specification 1.1, 3.4.
-use Rattle.std.specs.Prelude.{ℕ, ◌+◌, ◌*◌, ◌^◌, Bool, true, false, not, ◌&&◌, ◌==◌, nat_lt, if◌then◌else◌, List}
+use Rattle.std.specs.Prelude.{ℕ, ◌+◌, ◌*◌, Bool, ◌==◌, nat_lt, if◌then◌else◌, List}
 use Rattle.zns_types.specs.declared.fields.GeometryFields.{GeometryFields}
 use Rattle.zns_types.specs.Geometry.{block_len, greatest_transfer}
 use Rattle.zns_types.specs.Fields.{bits, bit, dword, long}

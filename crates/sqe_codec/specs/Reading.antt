@@ -1,7 +1,7 @@
 -- When an entry spells a command: each field of the command is a range of bits of the entry's dwords. NVM Express Base
 -- Specification 2.0, 3.3.3.1 (fields of every entry), 5 (admin commands) and 7 (Flush), NVM Command Set Specification
 -- 1.0, 3.2 (Read, Write), and Zoned Namespace Command Set Specification 1.1, 3.4 (the commands of zones).
-use Rattle.std.specs.Prelude.{◌≡◌, ◌↔◌, ℕ, ◌+◌, ◌*◌, ◌%◌, ◌^◌, ◌<◌, ◌≤◌, Bool, true, false, not, ◌||◌, ◌==◌, if◌then◌else◌, IsTrue, List}
+use Rattle.std.specs.Prelude.{◌≡◌, ◌↔◌, ℕ, ◌+◌, ◌*◌, ◌^◌, Bool, true, false, ◌||◌, ◌==◌, if◌then◌else◌, IsTrue, List}
 use Rattle.zns_types.specs.Fields.{bits, dword}
 use Rattle.sqe_codec.specs.declared.cmd.Cmd.{Cmd}
 use Rattle.sqe_codec.specs.declared.cmd.Cmd.TheVariants as cmd

@@ -25,6 +25,18 @@ one b = if b then 1 else 0
 abbrev pub first_dword : ℕ → ℕ → ℕ
 first_dword opcode cid = opcode + 2 ^ 16 * cid
 
+-- dword 13 of a Zone Management Send
+abbrev pub send_dword : ℕ → Bool → Bool → ℕ
+send_dword act all option = act + 2 ^ 8 * one all + 2 ^ 9 * one option
+
+-- dword 13 of a Zone Management Receive
+abbrev pub receive_dword : ℕ → ℕ → Bool → ℕ
+receive_dword act filter partial = act + 2 ^ 8 * filter + 2 ^ 16 * one partial
+
+-- dword 10 of a Get Log Page, with the low half of the number of dwords
+abbrev pub log_dword : ℕ → Bool → ℕ → ℕ
+log_dword page retain low = page + 2 ^ 15 * one retain + 2 ^ 16 * low
+
 -- an entry by its first two dwords and dwords 10 to 13, of which the first two hold an LBA
 abbrev pub lba_entry : ℕ → ℕ → ℕ → ℕ → ℕ → List ℕ
 lba_entry first nsid lba length how =
@@ -45,9 +57,9 @@ entry_of (cmd.Flush nsid) cid = lba_entry (first_dword 0x00 cid) nsid 0 0 0
 entry_of (cmd.Write nsid slba blocks) cid = lba_entry (first_dword 0x01 cid) nsid slba (blocks - 1) 0
 entry_of (cmd.Read nsid slba blocks) cid = lba_entry (first_dword 0x02 cid) nsid slba (blocks - 1) 0
 entry_of (cmd.Append nsid zslba blocks) cid = lba_entry (first_dword 0x7d cid) nsid zslba (blocks - 1) 0
-entry_of (cmd.Send nsid slba act all option) cid = lba_entry (first_dword 0x79 cid) nsid slba 0 (act + 2 ^ 8 * one all + 2 ^ 9 * one option)
-entry_of (cmd.Receive nsid slba bytes act filter partial) cid = lba_entry (first_dword 0x7a cid) nsid slba (dwords_less_one bytes) (act + 2 ^ 8 * filter + 2 ^ 16 * one partial)
-entry_of (cmd.GetLog nsid page bytes offset retain) cid = page_entry (first_dword 0x02 cid) nsid (page + 2 ^ 15 * one retain + 2 ^ 16 * (dwords_less_one bytes % 2 ^ 16)) (dwords_less_one bytes / 2 ^ 16) offset
+entry_of (cmd.Send nsid slba act all option) cid = lba_entry (first_dword 0x79 cid) nsid slba 0 (send_dword act all option)
+entry_of (cmd.Receive nsid slba bytes act filter partial) cid = lba_entry (first_dword 0x7a cid) nsid slba (dwords_less_one bytes) (receive_dword act filter partial)
+entry_of (cmd.GetLog nsid page bytes offset retain) cid = page_entry (first_dword 0x02 cid) nsid (log_dword page retain (dwords_less_one bytes % 2 ^ 16)) (dwords_less_one bytes / 2 ^ 16) offset
 entry_of (cmd.Identify nsid cns csi) cid = page_entry (first_dword 0x06 cid) nsid cns (2 ^ 24 * csi) 0
 entry_of (cmd.SetFeature feature value) cid = page_entry (first_dword 0x09 cid) 0 feature value 0
 entry_of (cmd.GetFeature feature) cid = page_entry (first_dword 0x0a cid) 0 feature 0 0

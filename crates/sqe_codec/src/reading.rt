@@ -1,6 +1,7 @@
 ghost use Rattle.std.specs.Prelude.{◌≡◌, ◌<◌, true, false, length};
 ghost use Rattle.sqe_codec.specs.Commands.{command, io_command, admin_command, cid_of, blocks_of, log_bytes_of};
 ghost use Rattle.sqe_codec.specs.Reading.{Reads};
+ghost use Rattle.sqe_codec.specs.declared.cmd.Cmd.{Cmd};
 ghost use Rattle.sqe_codec.specs.Ranges.{HasRanges};
 
 use crate::cmd::Cmd;
@@ -117,6 +118,7 @@ fn read_admin(bytes: &[u8]) -> Cmd
 pub fn read(sqe: &Sqe, admin: bool) -> Cmd
     ensures command { result ≡ command admin sqe.now.bytes }
     ensures reads { Reads sqe.now.bytes admin result }
+    ensures only { (cmd : Cmd) → Reads sqe.now.bytes admin cmd → cmd ≡ result }
     ensures ranges { HasRanges result }
 {
     if admin {

@@ -13,3 +13,6 @@ pub use field::{Field, GeomErr};
 pub use fields::GeometryFields;
 pub use geometry::Geometry;
 pub use state::State;
+
+#[cfg(test)]
+mod tests;

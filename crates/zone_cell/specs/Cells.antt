@@ -1,10 +1,10 @@
 -- A zone as its cell keeps it, and what each action makes of it.
-use Rattle.std.specs.Prelude.{◌≡◌, ℕ, ◌+◌, ◌-◌, ◌*◌, ◌/◌, ◌<◌, Bool, true, false, not, ◌&&◌, ◌||◌, ◌==◌, nat_le, nat_lt, if◌then◌else◌, max, List, length, map, replicate, slice_index_or, Option, Some, None, Result, Ok, Err}
+use Rattle.std.specs.Prelude.{◌≡◌, ℕ, ◌+◌, ◌-◌, ◌*◌, ◌/◌, ◌%◌, ◌<◌, ◌≤◌, Bool, IsTrue, true, false, not, ◌&&◌, ◌||◌, ◌==◌, nat_le, nat_lt, if◌then◌else◌, max, List, length, map, replicate, slice_index_or, Option, Some, None, Result, Ok, Err}
 use Rattle.std.specs.List.{flat_map, range_with_len}
 use Rattle.zns_types.specs.declared.fields.GeometryFields.{GeometryFields}
 use Rattle.zns_types.specs.declared.state.State.{State}
 use Rattle.zns_types.specs.declared.state.State.TheVariants.{Empty}
-use Rattle.zns_types.specs.States.{is_empty, is_closed, is_active}
+use Rattle.zns_types.specs.States.{is_empty, is_closed, is_active, is_full, is_read_only, is_offline}
 use Rattle.zns_types.specs.Statuses.{Status}
 use Rattle.zns_types.specs.Geometry.{block_len, first}
 use Rattle.zone_state.specs.declared.action.Action.{Action}
@@ -98,6 +98,12 @@ turned g a asks c = led (after a c.state) c.pointer c
 
 -- ---- writes and flushes
 
+-- no state that refuses every write
+pub record TakesWrites (s : State) : Type 0 where
+  pub full : is_full s ≡ false
+  pub read_only : is_read_only s ≡ false
+  pub offline : is_offline s ≡ false
+
 -- the blocks of host data
 abbrev pub count_of : Cell → List ℕ → ℕ
 count_of c payload = length payload / c.block_len
@@ -121,6 +127,23 @@ written g from payload c = led (moved g.capacity (Some action.Write) pointer c.s
 -- the zone after the blocks up to a last one were committed
 abbrev pub flushed : GeometryFields → ℕ → Cell → Cell
 flushed g last c = led (moved g.capacity (Some action.Flush) (last + 1) c.state) (last + 1) c
+
+-- host data of one block or more, each of them whole
+pub record IsBlocks (len : ℕ) (payload : List ℕ) : Type 0 where
+  pub some : 1 ≤ length payload / len
+  pub whole : length payload / len * len ≡ length payload
+
+-- The pointer of a random write area stands on a granule. A zone has one only on a drive where zones may.
+pub record HasGranules (g : GeometryFields) (c : Cell) : Type 0 where
+  pub windows : IsTrue c.window → 1 ≤ g.windows
+  pub whole : IsTrue c.window → c.pointer % g.granule ≡ 0
+
+-- An action may ask for a random write area where it is an Open, zones of the drive may have one, and the pointer is on
+-- a granule.
+pub record MayAsk (g : GeometryFields) (a : Action) (c : Cell) : Type 0 where
+  pub opens : a ≡ action.Open
+  pub windows : 1 ≤ g.windows
+  pub whole : c.pointer % g.granule ≡ 0
 
 -- ---- what is read
 

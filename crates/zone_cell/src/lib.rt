@@ -1,2 +1,12 @@
-//! One zone.
+//! One zone: its state, its write pointer, and the bytes of its blocks.
 #![tactic(auto)]
+
+mod cell;
+mod checks;
+mod reads;
+mod shown;
+mod states;
+mod turns;
+mod writes;
+
+pub use cell::ZoneCell;

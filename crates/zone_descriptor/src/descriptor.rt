@@ -1,5 +1,8 @@
 use zns_types::State;
 
+// The type of a zone that is written in sequence.
+pub const SEQUENTIAL: u8 = 2;
+
 /// A zone, as a report shows it.
 #[derive(Clone, Copy, Debug, PartialEq, Eq)]
 pub struct Descriptor {

@@ -1,5 +1,5 @@
 -- The completion entries that an act posts.
-use Rattle.std.specs.Prelude.{ℕ, ◌+◌, ◌/◌, ◌%◌, ◌^◌, Bool, true, false, not, ◌&&◌, ◌==◌, if◌then◌else◌, List, [], ◌∷◌, Option, Some, None, is_some, is_none}
+use Rattle.std.specs.Prelude.{ℕ, ◌+◌, ◌/◌, ◌%◌, ◌^◌, Bool, not, ◌&&◌, ◌==◌, if◌then◌else◌, List, [], ◌∷◌, Option, Some, is_some, is_none}
 use Rattle.zns_types.specs.declared.fields.GeometryFields.{GeometryFields}
 use Rattle.zns_types.specs.Geometry.{zone_of, first}
 use Rattle.zns_types.specs.Statuses.{Status, success, is_success, do_not_retry}
@@ -8,7 +8,7 @@ use Rattle.sqe_codec.specs.declared.cmd.Cmd.TheVariants as cmd
 use Rattle.sqe_codec.specs.Commands.{cid_of}
 use Rattle.cqe_codec.specs.declared.cqe.Cqe.{Cqe}
 use Rattle.zone_model.specs.declared.act.Act.{Act}
-use Rattle.zone_model.specs.Places.{Place, took, command_of, is_excursion, is_event_request, had_excursion, waited, total}
+use Rattle.zone_model.specs.Places.{Place, command_of, is_event_request, had_excursion, waited, total}
 use Rattle.zone_model.specs.Zones.{pointer}
 use Rattle.zone_state.specs.Shown.{one}
 use Rattle.zone_model.specs.Notices.{enabled}

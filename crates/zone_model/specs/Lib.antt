@@ -8,3 +8,4 @@ pub mod Reports
 pub mod Replies
 pub mod Entries
 pub mod Sessions
+pub mod Laws

@@ -1,14 +1,13 @@
 -- The changed zones and the events that tell of them: NVM Express Base Specification 2.0, 5.2 (Asynchronous Event
 -- Request), and Zoned Namespace Command Set Specification 1.1, 4.1.4.
-use Rattle.std.specs.Prelude.{ℕ, ◌+◌, Bool, true, false, not, ◌&&◌, ◌||◌, ◌==◌, if◌then◌else◌, List, [], ◌∷◌, ◌++◌, drop, filter, length, Option, Some, None, is_some}
+use Rattle.std.specs.Prelude.{ℕ, Bool, false, not, ◌&&◌, ◌||◌, if◌then◌else◌, List, [], ◌∷◌, ◌++◌, drop, filter, Option, Some, None, is_some}
 use Rattle.std.specs.List.{list_any}
 use Rattle.zns_types.specs.declared.fields.GeometryFields.{GeometryFields}
 use Rattle.zns_types.specs.Fields.{bit}
 use Rattle.sqe_codec.specs.declared.cmd.Cmd.{Cmd}
 use Rattle.sqe_codec.specs.declared.cmd.Cmd.TheVariants as cmd
 use Rattle.sqe_codec.specs.Commands.{cid_of}
-use Rattle.zone_model.specs.declared.act.Act.{Act}
-use Rattle.zone_model.specs.Places.{Place, took, command_of, changed_zone, had_excursion, cleared, waited, is_excursion, is_event_request, since_cleared, total}
+use Rattle.zone_model.specs.Places.{Place, took, command_of, changed_zone, had_excursion, cleared, waited, since_cleared, total}
 use Rattle.zone_model.specs.Zones.{zones}
 use Rattle.zone_state.specs.Shown.{one}
 

@@ -1,14 +1,13 @@
 -- A history: what was asked and what was answered, the newest place first. A place says what one act did; what a
 -- drive has become is found by looking back over the places.
-use Rattle.std.specs.Prelude.{ℕ, ◌+◌, ◌*◌, ◌-◌, max, Bool, true, false, not, ◌&&◌, ◌==◌, if◌then◌else◌, List, [], ◌∷◌, Option, Some, None, is_some}
+use Rattle.std.specs.Prelude.{ℕ, ◌+◌, ◌-◌, max, Bool, true, false, not, ◌&&◌, ◌==◌, if◌then◌else◌, List, [], ◌∷◌, Option, Some, is_some}
 use Rattle.std.specs.List.{list_any}
 use Rattle.zns_types.specs.declared.fields.GeometryFields.{GeometryFields}
 use Rattle.zns_types.specs.Statuses.{Status, is_success}
 use Rattle.zns_types.specs.Geometry.{zone_of, offset_of}
-use Rattle.zns_types.specs.Fields.{bit}
 use Rattle.sqe_codec.specs.declared.cmd.Cmd.{Cmd}
 use Rattle.sqe_codec.specs.declared.cmd.Cmd.TheVariants as cmd
-use Rattle.sqe_codec.specs.Commands.{command, cid_of}
+use Rattle.sqe_codec.specs.Commands.{command}
 use Rattle.zone_state.specs.declared.action.Action.{Action}
 use Rattle.zone_state.specs.declared.action.Action.TheVariants as action
 use Rattle.zone_model.specs.declared.act.Act.{Act}

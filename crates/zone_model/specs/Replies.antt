@@ -1,5 +1,5 @@
 -- The bytes that an act reads.
-use Rattle.std.specs.Prelude.{ℕ, ◌+◌, Bool, if◌then◌else◌, List, [], map, drop, replicate}
+use Rattle.std.specs.Prelude.{ℕ, if◌then◌else◌, List, [], map, drop}
 use Rattle.std.specs.List.{flat_map, range_with_len}
 use Rattle.zns_types.specs.declared.fields.GeometryFields.{GeometryFields}
 use Rattle.zns_types.specs.Geometry.{zone_of, offset_of}

@@ -1,5 +1,5 @@
 -- Sessions and results, and the bytes that spell them.
-use Rattle.std.specs.Prelude.{◌≡◌, ℕ, ◌+◌, ◌*◌, ◌^◌, ◌<◌, ◌≤◌, Bool, ◌==◌, if◌then◌else◌, List, [], ◌∷◌, ◌++◌, map, length, replicate, count_by, find, Option, Some, None, All, codes}
+use Rattle.std.specs.Prelude.{◌≡◌, ℕ, ◌+◌, ◌^◌, ◌<◌, ◌≤◌, Bool, ◌==◌, if◌then◌else◌, List, [], ◌∷◌, ◌++◌, map, length, replicate, count_by, find, Option, Some, None, All, codes}
 use Rattle.std.specs.List.{flat_map}
 use Rattle.byteorder.specs.Endian.{little_bytes}
 use Rattle.zns_types.specs.declared.fields.GeometryFields.{GeometryFields}
@@ -7,9 +7,8 @@ use Rattle.zns_types.specs.Geometry.{IsGeometry}
 use Rattle.sqe_codec.specs.Commands.{transfer_len, reply_len}
 use Rattle.cqe_codec.specs.declared.cqe.Cqe.{Cqe}
 use Rattle.cqe_codec.specs.Entries.{entry_bytes}
-use Rattle.zone_descriptor.specs.Descriptors.{descriptor_bytes}
 use Rattle.zone_model.specs.declared.act.Act.{Act}
-use Rattle.zone_model.specs.Places.{Place, command_of, total}
+use Rattle.zone_model.specs.Places.{Place, command_of}
 use Rattle.zone_model.specs.Notices.{changed}
 use Rattle.zone_model.specs.Answers.{and_then, answered}
 use Rattle.zone_model.specs.Reports.{changed_page, bytes_of_all}

@@ -1,10 +1,10 @@
 -- What a history has made of each zone.
-use Rattle.std.specs.Prelude.{ℕ, ◌+◌, ◌*◌, ◌-◌, ◌^◌, max, Bool, true, false, not, ◌&&◌, ◌||◌, ◌==◌, nat_lt, nat_le, if◌then◌else◌, List, [], ◌∷◌, take, drop, replicate, Option, Some, None, count_by, unwrap_or}
+use Rattle.std.specs.Prelude.{ℕ, ◌+◌, ◌-◌, max, Bool, ◌&&◌, ◌||◌, nat_lt, nat_le, if◌then◌else◌, List, [], ◌∷◌, Option, Some, None, count_by}
 use Rattle.std.specs.List.{list_any, range_with_len}
 use Rattle.zns_types.specs.declared.fields.GeometryFields.{GeometryFields}
 use Rattle.zns_types.specs.declared.state.State.{State}
 use Rattle.zns_types.specs.declared.state.State.TheVariants.{Empty}
-use Rattle.zns_types.specs.States.{is_opened, is_active, is_full, is_read_only, is_offline}
+use Rattle.zns_types.specs.States.{is_opened, is_active, is_read_only}
 use Rattle.zns_types.specs.Geometry.{block_len, first, offset_of}
 use Rattle.zone_state.specs.Transitions.{moved}
 use Rattle.zone_state.specs.ZoneRows.{Zone}

@@ -1,4 +1,4 @@
-ghost use Rattle.std.specs.Prelude.{◌≡◌, ◌+◌, ◌<◌, List, [], ◌∷◌, ◌++◌, length, IfOk, IsTrue, ◌↔◌, slice_index_or};
+ghost use Rattle.std.specs.Prelude.{◌≡◌, ◌+◌, ◌^◌, ◌<◌, List, [], ◌∷◌, ◌++◌, length, IfOk, IsTrue, ◌↔◌, slice_index_or};
 ghost use Rattle.zone_model.specs.Kept.{KeptActs};
 ghost use Rattle.zone_model.specs.declared.act.Act.{Act};
 
@@ -39,6 +39,7 @@ impl Journal {
         requires { 0 < self.old.spare }
         ensures acts { self.new.acts ≡ self.old.acts ++ act ∷ [] }
         ensures spare { self.new.spare + 1 ≡ self.old.spare }
+        ensures fits { length self.new.acts < 2 ^ 32 }
     {
         self.room -= 1;
         if self.acts.push(act).is_err() {

@@ -1,0 +1,95 @@
+-- Which rule of all is the first that is broken, where one of a part is.
+use Rattle.std.proofs.Common.{◌≡◌, ℕ, ◌<◌, ◌≤◌, true, List, [], ◌∷◌, ◌++◌, length, None, Some, refl, ◌∙◌, arith}
+use Rattle.std.proofs.lemmas.Bool.Decides.{nat_tests}
+use Rattle.std.specs.Prelude.{slice_index, nat_lt}
+use Rattle.zns_types.specs.declared.fields.GeometryFields.{GeometryFields}
+use Rattle.zns_types.specs.Geometry.{IsGeometry}
+use Rattle.zns_types.specs.Rows.{Row, first_holding}
+use Rattle.zns_types.proofs.RowLemmas.{first_holding-append_some, first_holding-append_none, none_answers}
+use Rattle.zone_model.specs.declared.act.Act.{Act}
+use Rattle.session_file.specs.declared.file_err.Reason.TheVariants as reason
+use Rattle.session_file.specs.declared.file_err.FileErr.{FileErr}
+use Rattle.session_file.specs.declared.file_err.FileErr.TheVariants.{NoMemory, Bad, Large}
+use Rattle.session_file.specs.Places.{geometry_in, count_in, acts_from, end_from, session_in, session_end}
+use Rattle.session_file.specs.FileRules.{bad, header_rows, records_rows, front_rows, file_rows}
+use Rattle.session_file.specs.Faults.{IsFirstOf}
+use Rattle.session_file.proofs.Fronts.{IsFront, is_front}
+
+pub first_of : (rows : List (Row FileErr)) (e : FileErr) → first_holding rows ≡ Some e → IsFirstOf rows e
+first_of rows NoMemory h = tt
+first_of rows (Bad reason offset) h = h
+first_of rows (Large which number) h = h
+
+-- the rules behind it don't count
+pub first_of-front : (rows more : List (Row FileErr)) (e : FileErr) → IsFirstOf rows e → IsFirstOf (rows ++ more) e
+first_of-front rows more NoMemory f = tt
+first_of-front rows more (Bad reason offset) f = first_holding-append_some rows more (Bad reason offset) f
+first_of-front rows more (Large which number) f = first_holding-append_some rows more (Large which number) f
+
+-- the rules before it hold
+pub first_of-back : (rows more : List (Row FileErr)) (e : FileErr) → first_holding rows ≡ None → IsFirstOf more e → IsFirstOf (rows ++ more) e
+first_of-back rows more NoMemory h f = tt
+first_of-back rows more (Bad reason offset) h f = first_holding-append_none rows more h ∙ f
+first_of-back rows more (Large which number) h f = first_holding-append_none rows more h ∙ f
+
+-- where no rule is broken, memory is wanting
+pub no_memory : (rows : List (Row FileErr)) (e : FileErr) → first_holding rows ≡ None → IsFirstOf rows e → e ≡ NoMemory
+no_memory rows NoMemory h f = refl
+no_memory rows (Bad reason offset) h f = absurd cc
+no_memory rows (Large which number) h f = absurd cc
+
+-- ---- the front
+
+pub front-header : (bytes : List ℕ) (e : FileErr) → first_holding (header_rows bytes) ≡ Some e → IsFirstOf (front_rows bytes) e
+unfolding front_rows
+front-header bytes e h = first_of-front (header_rows bytes) (records_rows (count_in bytes) (geometry_in bytes) bytes 64 0 0) e (first_of (header_rows bytes) e h)
+
+pub front-records : (bytes : List ℕ) (g : GeometryFields) (n : ℕ) (e : FileErr) → g ≡ geometry_in bytes → n ≡ count_in bytes → first_holding (header_rows bytes) ≡ None → IsFirstOf (records_rows n g bytes 64 0 0) e → IsFirstOf (front_rows bytes) e
+unfolding front_rows
+front-records bytes g n e same count h f =
+    let there : IsFirstOf (records_rows (count_in bytes) (geometry_in bytes) bytes 64 0 0) e = rw (← same, ← count) f in
+    first_of-back (header_rows bytes) (records_rows (count_in bytes) (geometry_in bytes) bytes 64 0 0) e h there
+
+-- what was read of bytes in which no rule is broken
+pub record WasRead (bytes : List ℕ) (fields : GeometryFields) (commands : ℕ) (acts : List Act) (end : ℕ) : Type 0 where
+  pub geometry : fields ≡ geometry_in bytes
+  pub count : commands ≡ count_in bytes
+  pub all : acts ≡ acts_from commands 64 bytes
+  pub last : end ≡ end_from commands 64 bytes
+  pub valid : IsGeometry fields
+  pub header : first_holding (header_rows bytes) ≡ None
+  pub records : first_holding (records_rows commands fields bytes 64 0 0) ≡ None
+
+pub read-session : (bytes : List ℕ) (fields : GeometryFields) (commands : ℕ) (acts : List Act) (end : ℕ) → WasRead bytes fields commands acts end → record { geometry = fields; acts = acts } ≡ session_in bytes
+read-session bytes fields commands acts end r = rw (r.all, r.count, r.geometry) refl
+
+pub read-end : (bytes : List ℕ) (fields : GeometryFields) (commands : ℕ) (acts : List Act) (end : ℕ) → WasRead bytes fields commands acts end → end ≡ session_end bytes
+read-end bytes fields commands acts end r = rw (r.last, r.count) refl
+
+pub read-passed : (bytes : List ℕ) (fields : GeometryFields) (commands : ℕ) (acts : List Act) (end : ℕ) → WasRead bytes fields commands acts end → first_holding (front_rows bytes) ≡ None
+unfolding front_rows
+read-passed bytes fields commands acts end r =
+    let rest : first_holding (records_rows (count_in bytes) (geometry_in bytes) bytes 64 0 0) ≡ None = rw (← r.count, ← r.geometry) r.records in
+    first_holding-append_none (header_rows bytes) (records_rows (count_in bytes) (geometry_in bytes) bytes 64 0 0) r.header ∙ rest
+
+pub read-front : (bytes : List ℕ) (fields : GeometryFields) (commands : ℕ) (acts : List Act) (end : ℕ) → ((i : ℕ) → slice_index bytes i < 256) → WasRead bytes fields commands acts end → IsFront bytes
+read-front bytes fields commands acts end fits r = is_front bytes fits (rw (← r.geometry) r.valid) (read-passed bytes fields commands acts end r)
+
+-- ---- all of it
+
+pub file-front : (bytes : List ℕ) (e : FileErr) → IsFirstOf (front_rows bytes) e → IsFirstOf (file_rows bytes) e
+unfolding file_rows
+file-front bytes e f = first_of-front (front_rows bytes) (bad reason.Trailing (session_end bytes) (nat_lt (session_end bytes) (length bytes)) ∷ []) e f
+
+pub file-trailing : (bytes : List ℕ) (end : ℕ) → end ≡ session_end bytes → end < length bytes → first_holding (front_rows bytes) ≡ None → first_holding (file_rows bytes) ≡ Some (Bad reason.Trailing end)
+unfolding file_rows
+file-trailing bytes end same h e =
+    let holds : nat_lt (session_end bytes) (length bytes) ≡ true = grind (arith, nat_tests) in
+    first_holding-append_none (front_rows bytes) (bad reason.Trailing (session_end bytes) (nat_lt (session_end bytes) (length bytes)) ∷ []) e
+    ∙ rw (holds, same) refl
+
+pub file-passed : (bytes : List ℕ) (end : ℕ) → end ≡ session_end bytes → length bytes ≤ end → first_holding (front_rows bytes) ≡ None → first_holding (file_rows bytes) ≡ None
+unfolding file_rows
+file-passed bytes end same h e =
+    first_holding-append_none (front_rows bytes) (bad reason.Trailing (session_end bytes) (nat_lt (session_end bytes) (length bytes)) ∷ []) e
+    ∙ none_answers (bad reason.Trailing (session_end bytes) (nat_lt (session_end bytes) (length bytes)) ∷ []) (grind (arith, nat_tests), tt)

@@ -1,0 +1,11 @@
+pub mod RowSplits
+pub mod HeaderRows
+pub mod HeaderPlaces
+pub mod Geometries
+pub mod RecordPlaces
+pub mod RecordRows
+pub mod RecordLists
+pub mod Fronts
+pub mod RecordSteps
+pub mod Firsts
+pub mod Appending

@@ -1,0 +1,39 @@
+-- The rules of one record and the facts that they stand for.
+use Rattle.std.proofs.Common.{◌≡◌, ℕ, ◌+◌, ◌^◌, ◌<◌, ◌≤◌, List, length, None, arith}
+use Rattle.std.proofs.lemmas.Bool.Decides.{nat_tests}
+use Rattle.zns_types.specs.declared.fields.GeometryFields.{GeometryFields}
+use Rattle.zns_types.specs.Fields.{field}
+use Rattle.zns_types.specs.Rows.{first_holding}
+use Rattle.zns_types.proofs.RowLemmas.{NoneHolds, none_holds, none_answers}
+use Rattle.sqe_codec.specs.Commands.{transfer_len, reply_len}
+use Rattle.zone_model.specs.Places.{command_of}
+use Rattle.session_file.specs.Places.{length_at, act_at, next_at}
+use Rattle.session_file.specs.FileRules.{record_rows}
+
+pub record Passes (g : GeometryFields) (bytes : List ℕ) (at sent asked : ℕ) : Type 0 where
+  pub queue : (act_at at bytes).queue < g.queues
+  pub zeros : field (at + 2) 2 bytes ≡ 0
+  pub len : length_at at bytes ≡ transfer_len g (command_of (act_at at bytes))
+  pub few_sent : sent + length_at at bytes ≤ 2 ^ 27
+  pub few_asked : asked + reply_len g (command_of (act_at at bytes)) ≤ 2 ^ 27
+  pub within : next_at at bytes ≤ length bytes
+
+-- where no rule is broken
+pub passes-record : (g : GeometryFields) (bytes : List ℕ) (at sent asked : ℕ) → first_holding (record_rows g bytes at sent asked) ≡ None → Passes g bytes at sent asked
+unfolding record_rows
+passes-record g bytes at sent asked e =
+    let h : NoneHolds (record_rows g bytes at sent asked) = none_holds (record_rows g bytes at sent asked) e in
+    record {
+      queue = grind (arith, nat_tests, h.1.0);
+      zeros = grind (arith, nat_tests, h.1.1.0);
+      len = grind (arith, nat_tests, h.1.1.1.0);
+      few_sent = grind (arith, nat_tests, h.1.1.1.1.0);
+      few_asked = grind (arith, nat_tests, h.1.1.1.1.1.0);
+      within = grind (arith, nat_tests, h.1.1.1.1.1.1.0);
+    }
+
+-- and the other way round
+pub record-passes : (g : GeometryFields) (bytes : List ℕ) (at sent asked : ℕ) → Passes g bytes at sent asked → first_holding (record_rows g bytes at sent asked) ≡ None
+unfolding record_rows
+record-passes g bytes at sent asked p =
+    none_answers (record_rows g bytes at sent asked) (grind (arith, nat_tests), (grind (arith, nat_tests), (grind (arith, nat_tests), (grind (arith, nat_tests), (grind (arith, nat_tests), (grind (arith, nat_tests), (grind (arith, nat_tests), tt)))))))

@@ -1,0 +1,4 @@
+pub mod Places
+pub mod FileRules
+pub mod Faults
+pub mod Results

@@ -1,0 +1,85 @@
+use thiserror::Error;
+use zns_io::NoMemory;
+
+/// What is wrong with an input.
+#[derive(Clone, Copy, Debug, PartialEq, Eq)]
+pub enum Reason {
+    /// The input ends early.
+    Short,
+
+    /// It doesn't begin as a session does.
+    Magic,
+
+    /// A number of the header makes no drive, or a reserved byte of the header isn't zero.
+    Header,
+
+    /// A record names a queue that the drive doesn't have.
+    Queue,
+
+    /// Reserved bytes of a record aren't zero.
+    Reserved,
+
+    /// A record's length isn't that of the data that its entry brings.
+    Length,
+
+    /// Bytes follow the last record.
+    Trailing,
+
+    /// A line of a host script has no meaning.
+    HostLine,
+
+    /// A result doesn't begin as a result does.
+    ResultMagic,
+
+    /// A result is of another number of commands.
+    ResultCount,
+
+    /// An order names a queue that has no further command.
+    ResultOrder,
+
+    /// A part of the format that isn't built.
+    NotBuilt,
+}
+
+/// What is too large.
+#[derive(Clone, Copy, Debug, PartialEq, Eq)]
+pub enum Which {
+    Input,
+    Zones,
+    ZoneSize,
+    Queues,
+    Depth,
+    Commands,
+
+    /// The bytes of host data.
+    Sent,
+
+    /// The bytes that the commands ask for.
+    Replies,
+}
+
+/// Why bytes are no session, or no front of a result.
+#[derive(Clone, Copy, Debug, PartialEq, Eq, Error)]
+pub enum FileErr {
+    #[error("no memory")]
+    NoMemory,
+
+    /// The input is wrong at an offset from its first byte.
+    #[error("bad file: {reason:?} at {offset}")]
+    Bad { reason: Reason, offset: u64 },
+
+    /// A number is over its limit.
+    #[error("too large: {which:?} {number}")]
+    Large { which: Which, number: u64 },
+}
+
+impl From<NoMemory> for FileErr {
+    ghost use Rattle.std.specs.Prelude.{◌≡◌};
+    ghost use Rattle.session_file.specs.declared.file_err.FileErr.TheVariants as file_err;
+
+    ghost from_gives = { λ _ e. e ≡ file_err.NoMemory };
+
+    fn from(_error: NoMemory) -> FileErr {
+        FileErr::NoMemory
+    }
+}

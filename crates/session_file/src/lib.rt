@@ -1,0 +1,21 @@
+//! Sessions and results as bytes.
+#![tactic(auto)]
+
+mod fields;
+mod file_err;
+mod header;
+mod putting;
+mod reading;
+mod records;
+mod results;
+mod session;
+mod writing;
+
+pub use file_err::{FileErr, Reason, Which};
+pub use reading::{read, read_front};
+pub use results::write_result;
+pub use session::Session;
+pub use writing::write;
+
+#[cfg(test)]
+mod tests;

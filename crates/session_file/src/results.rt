@@ -1,0 +1,89 @@
+ghost use Rattle.std.specs.Prelude.{◌≡◌, ◌++◌, ◌<◌, ◌≤◌, ◌^◌, OnOk, IfOk, All, length, map};
+ghost use Rattle.std.specs.List.{flat_map};
+ghost use Rattle.byteorder.specs.Endian.{little_bytes};
+ghost use Rattle.cqe_codec.specs.Entries.{entry_bytes};
+ghost use Rattle.zone_model.specs.Sessions.{own_order, order_bytes};
+ghost use Rattle.session_file.specs.Results.{part_of, IsShort, result_parts};
+
+use crate::putting::{put_u16, put_u32};
+use cqe_codec::{Cqe, write as write_entry};
+use std::alloc::Global;
+use zns_io::{Bytes, NoMemory};
+use zone_model::{Journal, Replies, Reply};
+
+// The queues of the acts, in two bytes each.
+fn put_queues(file: &mut Vec<u8>, journal: &Journal) -> Result<(), NoMemory>
+    ensures { OnOk result (file.new.items ≡ file.old.items ++ flat_map (little_bytes 2) (own_order journal.now.acts)) }
+{
+    for number in 0..journal.len() {
+        put_u16(file, journal.queue(number))?;
+    }
+    Ok(())
+}
+
+// The order in which the acts were served.
+fn put_order(file: &mut Vec<u8>, journal: &Journal) -> Result<(), NoMemory>
+    ensures { OnOk result (file.new.items ≡ file.old.items ++ order_bytes (own_order journal.now.acts)) }
+{
+    file.extend_from_slice(b"ZNSR0001")?;
+    put_u32(file, journal.len())?;
+    put_queues(file, journal)?;
+    Ok(())
+}
+
+// Entries, in 16 bytes each.
+fn put_entries(file: &mut Vec<u8>, entries: &[Cqe]) -> Result<(), NoMemory>
+    ensures { OnOk result (file.new.items ≡ file.old.items ++ flat_map entry_bytes entries.now) }
+{
+    for entry in entries {
+        file.extend_from_slice(&write_entry(entry))?;
+    }
+    Ok(())
+}
+
+// A reply: its entries and what it read, each with its number before it.
+fn put_reply(file: &mut Vec<u8>, reply: &Reply) -> Result<(), NoMemory>
+    requires { IsShort reply.now }
+    ensures { OnOk result (file.new.items ≡ file.old.items ++ part_of reply.now) }
+{
+    let entries = reply.entries.as_slice();
+    let read = reply.read.as_slice();
+    put_u16(file, entries.len() as u16)?;
+    put_entries(file, entries)?;
+    put_u32(file, read.len() as u32)?;
+    file.extend_from_slice(read)?;
+    Ok(())
+}
+
+// All replies, in order.
+fn put_replies(file: &mut Vec<u8>, replies: &Replies) -> Result<(), NoMemory>
+    requires { All IsShort replies.now.replies }
+    ensures { OnOk result (file.new.items ≡ file.old.items ++ flat_map part_of replies.now.replies) }
+{
+    for number in 0..replies.len() {
+        put_reply(file, replies.reply(number))?;
+    }
+    Ok(())
+}
+
+/// The result file of acts that were served: their order, the replies to them, the descriptor of
+/// every zone in 64 bytes each, and the 4,096 bytes of the page of changed zones.
+#[tactic(auto, unfolding(crate::specs::Results::result_parts))]
+pub fn write_result(
+    alloc: Global,
+    journal: &Journal,
+    replies: &Replies,
+    descriptors: &[u8],
+    page: &[u8],
+) -> Result<Bytes, NoMemory>
+    requires one_each { length replies.now.replies ≡ length journal.now.acts }
+    requires short { All IsShort replies.now.replies }
+    ensures { IfOk result (λ b. b ≡ result_parts (own_order journal.now.acts) replies.now.replies descriptors.now page.now) }
+{
+    let mut file = Vec::new(alloc);
+    put_order(&mut file, journal)?;
+    put_replies(&mut file, replies)?;
+    file.extend_from_slice(descriptors)?;
+    file.extend_from_slice(page)?;
+    Ok(Bytes::from_vec(file))
+}

@@ -1,0 +1,116 @@
+use super::*;
+use arrayvec::ArrayVec;
+use cqe_codec::Cqe;
+use sqe_codec::Sqe;
+use std::alloc::Global;
+use std::test::Fail;
+use zns_io::Bytes;
+use zone_model::{Act, Journal, Replies, Reply};
+
+// Four zones of 64 blocks, 48 of which can be written, and no commands.
+const HEADER: [u8; 64] = *b"ZNSQ0001\
+    \x09\x00\x00\x00\x04\x00\x00\x00\x40\x00\x00\x00\x00\x00\x00\x00\
+    \x30\x00\x00\x00\x00\x00\x00\x00\x00\x00\x00\x00\x00\x00\x00\x00\
+    \x00\x00\x00\x00\x00\x00\x00\x00\x02\x00\x40\x00\x00\x00\x00\x00\
+    \x00\x00\x00\x00\x00\x00\x00\x00";
+
+// A Write of one block at LBA 0 on queue 1, up to its host data.
+const RECORD: [u8; 16] = *b"\x01\x00\x00\x00\x00\x02\x00\x00\x01\x00\x01\x00\x01\x00\x00\x00";
+
+// The session of one Write, and one byte behind it.
+fn one_write(alloc: Global) -> Result<Vec<u8>, Fail> {
+    let mut file = Vec::new(alloc);
+    file.extend_from_slice(&HEADER[..52])?;
+    file.extend_from_slice(&[1])?;
+    file.extend_from_slice(&HEADER[53..])?;
+    file.extend_from_slice(&RECORD)?;
+    file.extend_from_slice(&[0; 56])?;
+    file.extend_from_slice(&[0x11; 513])?;
+    Ok(file)
+}
+
+#[test]
+fn sessions_are_read_and_written(rt: HostRuntime) -> Result<(), Fail> {
+    let alloc = rt.alloc();
+    let mut file = one_write(alloc)?;
+    file.truncate(648);
+    for bytes in [HEADER.as_slice(), file.as_slice()] {
+        let session = read(alloc, bytes)?;
+        assert_eq!(rt; write(alloc, &session)?.as_slice(), bytes);
+    }
+    Ok(())
+}
+
+fn bad(reason: Reason, offset: u64) -> Option<FileErr> {
+    Some(FileErr::Bad { reason, offset })
+}
+
+#[test]
+fn the_first_broken_rule_is_named(rt: HostRuntime) -> Result<(), Fail> {
+    let alloc = rt.alloc();
+    // a place, the bytes that are put there, the length of the file, and the answer
+    let rows: [(u8, &[u8], usize, Option<FileErr>); 8] = [
+        (0, b"Z", 648, None),
+        (0, b"Z", 63, bad(Reason::Short, 63)),
+        (0, b"Z", 600, bad(Reason::Short, 600)),
+        (0, b"Z", 649, bad(Reason::Trailing, 648)),
+        (64, &[17, 0], 648, bad(Reason::Queue, 64)),
+        (67, &[1], 648, bad(Reason::Reserved, 66)),
+        (68, &[0xff, 0x01], 648, bad(Reason::Length, 68)),
+        (
+            12,
+            &[0x88, 0x13],
+            648,
+            Some(FileErr::Large {
+                which: Which::Zones,
+                number: 5_000,
+            }),
+        ),
+    ];
+    for (place, new, len, answer) in rows {
+        let mut file = one_write(alloc)?;
+        for (i, byte) in new.iter().enumerate() {
+            if let Some(old) = file.get_mut(usize::from(place) + i) {
+                *old = *byte;
+            }
+        }
+        file.truncate(len);
+        assert_eq!(rt; read(alloc, &file).err(), answer, "at {place} and {len}");
+    }
+    Ok(())
+}
+
+#[test]
+fn a_result_is_written(rt: HostRuntime) -> Result<(), Fail> {
+    let alloc = rt.alloc();
+    let mut journal = Journal::new(alloc, 1)?;
+    journal.push(Act {
+        queue: 1,
+        sqe: Sqe { bytes: [0; 64] },
+        payload: Bytes::empty(alloc),
+    });
+    let mut entries = ArrayVec::new();
+    entries.push(Cqe {
+        head: 1,
+        sqid: 1,
+        cid: 1,
+        phase: true,
+        ..Cqe::default()
+    });
+    let mut replies = Replies::new(alloc, 1)?;
+    replies.push(Reply {
+        entries,
+        read: Bytes::of(alloc, &[7])?,
+    });
+    let result = write_result(alloc, &journal, &replies, &[8; 64], &[9; 4096])?;
+    let bytes = result.as_slice();
+    assert_eq!(rt; bytes.len(), 4_197);
+    assert_eq!(rt;
+        &bytes[..38],
+        b"ZNSR0001\x01\x00\x00\x00\x01\x00\x01\x00\
+          \x00\x00\x00\x00\x00\x00\x00\x00\x01\x00\x01\x00\x01\x00\x01\x00\
+          \x01\x00\x00\x00\x07\x08"
+            .as_slice()
+    );
+    Ok(())
+}

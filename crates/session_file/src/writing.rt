@@ -1,0 +1,101 @@
+ghost use Rattle.std.specs.Prelude.{◌≡◌, ◌∷◌, [], ◌++◌, ◌<◌, ◌^◌, OnOk, IfOk, All, length, codes, replicate};
+ghost use Rattle.std.specs.List.{flat_map};
+ghost use Rattle.byteorder.specs.Endian.{little_bytes};
+ghost use Rattle.zone_model.specs.declared.act.Act.{Act};
+ghost use Rattle.zone_model.specs.Sessions.{header_bytes, record_bytes, spells};
+
+use crate::putting::{put_u16, put_u32, put_u64};
+use crate::session::Session;
+use std::alloc::Global;
+use zns_io::{Bytes, NoMemory};
+use zns_types::GeometryFields;
+use zone_model::{Act, Acts};
+
+// The start of a header: its text, and the numbers of one byte.
+fn put_start(file: &mut Vec<u8>, g: &GeometryFields) -> Result<(), NoMemory>
+    ensures { OnOk result (file.new.items ≡ file.old.items ++ (codes "ZNSQ0001" ++ (g.now.block_exp ∷ g.now.mdts ∷ g.now.zasl ∷ g.now.flags ∷ []))) }
+{
+    file.extend_from_slice(b"ZNSQ0001")?;
+    file.extend_from_slice(&[g.block_exp, g.mdts, g.zasl, g.flags])?;
+    Ok(())
+}
+
+// The number and the sizes of zones.
+fn put_zones(file: &mut Vec<u8>, g: &GeometryFields) -> Result<(), NoMemory>
+    ensures { OnOk result (file.new.items ≡ file.old.items ++ (little_bytes 4 g.now.zones ++ little_bytes 8 g.now.zone_size ++ little_bytes 8 g.now.capacity)) }
+{
+    put_u32(file, g.zones)?;
+    put_u64(file, g.zone_size)?;
+    put_u64(file, g.capacity)?;
+    Ok(())
+}
+
+// How many zones may be active, opened, and have a random write area.
+fn put_limits(file: &mut Vec<u8>, g: &GeometryFields) -> Result<(), NoMemory>
+    ensures { OnOk result (file.new.items ≡ file.old.items ++ (little_bytes 4 g.now.active_limit ++ little_bytes 4 g.now.open_limit ++ little_bytes 4 g.now.windows)) }
+{
+    put_u32(file, g.active_limit)?;
+    put_u32(file, g.open_limit)?;
+    put_u32(file, g.windows)?;
+    Ok(())
+}
+
+// The sizes of random write areas, and the queues.
+fn put_windows(file: &mut Vec<u8>, g: &GeometryFields) -> Result<(), NoMemory>
+    ensures { OnOk result (file.new.items ≡ file.old.items ++ (little_bytes 2 g.now.granule ++ little_bytes 2 g.now.window ++ little_bytes 2 g.now.queues ++ little_bytes 2 g.now.depth)) }
+{
+    put_u16(file, g.granule)?;
+    put_u16(file, g.window)?;
+    put_u16(file, g.queues)?;
+    put_u16(file, g.depth)?;
+    Ok(())
+}
+
+// The header of a session of so many acts.
+fn put_header(file: &mut Vec<u8>, g: &GeometryFields, acts: u32) -> Result<(), NoMemory>
+    ensures { OnOk result (file.new.items ≡ file.old.items ++ header_bytes g.now acts) }
+{
+    put_start(file, g)?;
+    put_zones(file, g)?;
+    put_limits(file, g)?;
+    put_windows(file, g)?;
+    put_u32(file, acts)?;
+    file.extend_from_slice(&[0; 8])?;
+    Ok(())
+}
+
+// The record of an act.
+fn put_act(file: &mut Vec<u8>, act: &Act) -> Result<(), NoMemory>
+    requires { length act.now.payload < 2 ^ 32 }
+    ensures { OnOk result (file.new.items ≡ file.old.items ++ record_bytes act.now) }
+{
+    let payload = act.payload.as_slice();
+    put_u16(file, act.queue)?;
+    file.extend_from_slice(&[0; 2])?;
+    put_u32(file, payload.len() as u32)?;
+    file.extend_from_slice(&act.sqe.bytes)?;
+    file.extend_from_slice(payload)?;
+    Ok(())
+}
+
+// The records of acts, in order.
+fn put_acts(file: &mut Vec<u8>, acts: &Acts) -> Result<(), NoMemory>
+    requires { All (λ (a : Act). length a.payload < 2 ^ 32) acts.now.acts }
+    ensures { OnOk result (file.new.items ≡ file.old.items ++ flat_map record_bytes acts.now.acts) }
+{
+    for number in 0..acts.len() {
+        put_act(file, acts.act(number))?;
+    }
+    Ok(())
+}
+
+/// The bytes of a session.
+pub fn write(alloc: Global, session: &Session) -> Result<Bytes, NoMemory>
+    ensures { IfOk result (spells session.now) }
+{
+    let mut file = Vec::new(alloc);
+    let acts = session.acts();
+    put_header(&mut file, session.geometry().fields(), acts.len())?;
+    put_acts(&mut file, acts)?;
+    Ok(Bytes::from_vec(file))
+}

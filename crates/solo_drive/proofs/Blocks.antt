@@ -1,0 +1,32 @@
+-- The blocks of a cell after a write.
+use Rattle.std.proofs.Common.{◌≡◌, ℕ, ◌+◌, ◌-◌, ◌*◌, ◌/◌, ◌<◌, ◌≤◌, Bool, true, false, cond, List, Option, Some, None, length, get_or, refl, ap, ◌∙◌, sym, arith, inl, inr}
+use Rattle.std.specs.Prelude.{◌&&◌, nat_le, nat_lt, map}
+use Rattle.std.specs.List.{range_with_len}
+use Rattle.std.proofs.lemmas.Bool.{cases_lt}
+use Rattle.std.proofs.lemmas.Bool.Decides.{nat_tests}
+use Rattle.std.proofs.lemmas.List.{get_or_past}
+use Rattle.std.proofs.lemmas.List.FromFn.{get_or-map-range_with_len, length-map-range_with_len}
+use Rattle.std.proofs.Math.Nat.{mul-div_cancel}
+use Rattle.zone_state.specs.Blocks.{block_at}
+use Rattle.zone_cell.specs.Cells.{with_blocks}
+
+-- the number of whole blocks
+pub whole_blocks : (len blocks n : ℕ) → 1 ≤ len → n ≡ blocks * len → n / len ≡ blocks
+whole_blocks len blocks n some e = let positive : 0 < len = omega arith in rw e (mul-div_cancel blocks positive)
+
+past : (from blocks b : ℕ) → from + blocks ≤ b → (nat_le from b && nat_lt b (from + blocks)) ≡ false
+past from blocks b h = grind (arith, nat_tests)
+
+pub length-with_blocks : (len from : ℕ) (payload : List ℕ) (old : List (Option (List ℕ))) → length (with_blocks len from payload old) ≡ length old
+length-with_blocks len from payload old = length-map-range_with_len _ 0 (length old)
+
+-- a block is that of the data where the write covers it, and else as before
+pub written_block : (len from blocks b : ℕ) (payload : List ℕ) (old : List (Option (List ℕ))) → length payload / len ≡ blocks → from + blocks ≤ length old
+    → get_or (with_blocks len from payload old) b None ≡ cond (nat_le from b && nat_lt b (from + blocks)) (Some (block_at len payload (b - from))) (get_or old b None)
+written_block len from blocks b payload old count fits = elim (cases_lt b (length old)) [
+  | inl below ↦ rw (← count) (get_or-map-range_with_len _ 0 (length old) b b None below (omega arith))
+  | inr beyond ↦
+      let none : get_or old b None ≡ None = get_or_past old b None beyond in
+      let outside = past from blocks b (omega arith) in
+      rw (outside, none) (get_or_past (with_blocks len from payload old) b None (omega (arith, length-with_blocks len from payload old)))
+]

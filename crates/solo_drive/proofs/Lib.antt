@@ -1,0 +1,16 @@
+pub mod Plain
+pub mod Rows
+pub mod Refusing
+pub mod Statuses
+pub mod Blocks
+pub mod Stands
+pub mod Step
+pub mod Others
+pub mod Tallies
+pub mod Posting
+pub mod Fresh
+pub mod Ranges
+pub mod ReadSteps
+pub mod ShownStates
+pub mod WriteCases
+pub mod Drives

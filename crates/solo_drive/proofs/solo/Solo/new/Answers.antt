@@ -1,0 +1,15 @@
+use Rattle.std.proofs.Common.{◌≡◌, [], ap, arith, lit<, refl}
+use Rattle.zone_model.specs.Kept.{KeptActs}
+use Rattle.zone_model.proofs.Histories.{answered-none}
+use Rattle.solo_drive.proofs.Fresh.{fresh_stands, no_tallies}
+use Rattle.solo_drive.proofs.solo.Solo.new.Goals as goal
+
+pub invariant_of-result : goal.invariant_of-result
+invariant_of-result c =
+    let g = c.args.g.fields in
+    let empty : c.in_ok-journal.journal.acts ≡ [] = ap (λ (k : KeptActs). k.acts) c.in_ok-journal.ensures in
+    rw empty (record {
+      zones = rw answered-none (fresh_stands g c.in_ok-cells.cells.items c.requires.unlimited c.in_ok-cells.ensures);
+      queues = rw answered-none (no_tallies g c.in_ok-tallies.tallies.items (c.in_ok-tallies.ensures.items_if_clones_equal (λ y e. e)));
+      small = lit< tt;
+    })

@@ -1,0 +1,4 @@
+pub mod Drives
+pub mod Standing
+pub mod Serving
+pub mod Reading

@@ -1,0 +1,13 @@
+//! A drive that serves one command at a time.
+#![tactic(auto)]
+
+mod front;
+mod posted;
+mod reads;
+mod serving;
+mod solo;
+mod tally;
+mod writes;
+
+pub use posted::Posted;
+pub use solo::Solo;

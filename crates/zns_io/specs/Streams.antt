@@ -1,0 +1,16 @@
+-- Readers and writers of the standard library, as sources and sinks.
+use Rattle.std.specs.Prelude.{ℕ, List, Option, Some, None, IsSome}
+
+-- What a stream tells of its bytes, and how many of its calls failed.
+pub record Stream : Type 0 where
+  pub told : Option (List ℕ)
+  pub faults : ℕ
+
+-- what is told now, by one that told something at first
+abbrev pub told_since : Option (List ℕ) → Option (List ℕ) → Option (List ℕ)
+told_since None now = None
+told_since (Some first) now = now
+
+-- one that told something at first tells something now
+abbrev pub StaysTold : Option (List ℕ) → Option (List ℕ) → Type 0
+StaysTold first now = IsSome first → IsSome now

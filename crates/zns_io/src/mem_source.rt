@@ -1,0 +1,61 @@
+ghost use Rattle.std.specs.Prelude.{◌≡◌, ℕ, ◌<◌, ◌≤◌, length, take, Ok, Some, IfOk, OnOk, OnErr, is_err};
+ghost use Rattle.std.specs.Io.KnownBytes.{IsAtEnd};
+ghost use Rattle.zns_io.specs.Calls.{is_due};
+ghost use Rattle.zns_io.specs.MemorySources.{given_len, given, after_call};
+
+use crate::bytes::Bytes;
+use crate::calls::CallPlan;
+use crate::failed::Failed;
+use crate::source::Source;
+use crate::sure_source::SureSource;
+use std::marker::Model;
+
+/// A source of bytes in memory, of which some calls fail.
+#[derive(Drop)]
+pub struct MemSource {
+    source: SureSource,
+    calls: CallPlan,
+}
+
+impl Model for MemSource {
+    ghost use Rattle.zns_io.specs.MemorySources.{FailingSource};
+
+    ghost Value = { FailingSource };
+
+    ghost view = { λ s. record { bytes = s.source; calls = s.calls } };
+}
+
+impl MemSource {
+    /// A source of `bytes`, of which a read gives at most `piece`. The calls whose numbers, from 0,
+    /// are in `failing` fail.
+    pub fn new(bytes: Bytes, piece: u32, failing: Vec<u32>) -> MemSource
+        requires { 1 ≤ piece }
+        ensures bytes { result.bytes ≡ record { left = bytes; piece = piece } }
+        ensures calls { result.calls ≡ record { failing = failing.items; made = 0; faults = 0 } }
+    {
+        MemSource {
+            source: SureSource::new(bytes, piece),
+            calls: CallPlan::new(failing),
+        }
+    }
+}
+
+impl Source for MemSource {
+    ghost left = { λ s. Some s.bytes.left };
+
+    ghost faults = { λ s. s.calls.faults };
+
+    fn read(&mut self, out: &mut [u8]) -> Result<usize, Failed>
+        requires { 0 < length out.old }
+        ensures fails { is_err result ≡ is_due self.old.calls }
+        ensures count { IfOk result (λ n. n ≡ given_len self.old.bytes (length out.old)) }
+        ensures given { OnOk result (out.new ≡ given self.old.bytes out.old) }
+        ensures untouched { OnErr result (out.new ≡ out.old) }
+        ensures after { self.new ≡ after_call self.old (length out.old) }
+        ensures end { IfOk result (λ n. n ≡ 0 → IsAtEnd (Some self.new.bytes.left)) }
+        ensures faults { self.old.calls.faults ≤ self.new.calls.faults }
+    {
+        self.calls.count(false)?;
+        self.source.read(out)
+    }
+}

@@ -1,0 +1,26 @@
+ghost use Rattle.std.specs.Prelude.{◌≡◌, ℕ, ◌<◌, ◌≤◌, List, length, take, Option, IfOk, OnErr};
+
+use crate::failed::Failed;
+
+/// Where bytes go.
+pub trait Sink {
+    ghost use Rattle.zns_io.specs.Faults.{Rose};
+    ghost use Rattle.zns_io.specs.Told.{Gains};
+
+    /// The bytes taken so far, where the sink tells them.
+    ghost taken: { Self → Option (List ℕ) };
+
+    /// How many calls failed, up to `u64::MAX`.
+    ghost faults: { Self → ℕ };
+
+    /// Takes some bytes from the front of `piece`, which has some, and says how many.
+    fn write(&mut self, piece: &[u8]) -> Result<usize, Failed>
+        requires { 0 < length piece.now }
+        ensures some { IfOk result (λ n. 1 ≤ n) }
+        ensures bound { IfOk result (λ n. n ≤ length piece.now) }
+        ensures bytes { IfOk result (λ n. Gains (taken self.old) (taken self.new) (take n piece.now)) }
+
+        ensures kept { OnErr result (taken self.new ≡ taken self.old) }
+        ensures fault { OnErr result (Rose (faults self.old) (faults self.new)) }
+        ensures faults { faults self.old ≤ faults self.new };
+}

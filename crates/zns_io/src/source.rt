@@ -1,0 +1,27 @@
+ghost use Rattle.std.specs.Prelude.{◌≡◌, ℕ, ◌<◌, ◌≤◌, List, length, take, Option, IfOk, OnErr};
+
+use crate::failed::Failed;
+
+/// Where bytes come from.
+pub trait Source {
+    ghost use Rattle.std.specs.Io.{ReadsAtMost};
+    ghost use Rattle.std.specs.Io.KnownBytes.{Consumes, IsAtEnd};
+    ghost use Rattle.zns_io.specs.Faults.{Rose};
+
+    /// The bytes still to come, where the source tells them.
+    ghost left: { Self → Option (List ℕ) };
+
+    /// How many calls failed, up to `u64::MAX`.
+    ghost faults: { Self → ℕ };
+
+    /// Puts some bytes in front of `out`, which has room, and says how many. 0 is the end.
+    fn read(&mut self, out: &mut [u8]) -> Result<usize, Failed>
+        requires { 0 < length out.old }
+        ensures bound { ReadsAtMost result out.new }
+        ensures bytes { IfOk result (λ n. Consumes (left self.old) (left self.new) (take n out.new)) }
+        ensures end { IfOk result (λ n. n ≡ 0 → IsAtEnd (left self.new)) }
+
+        ensures kept { OnErr result (left self.new ≡ left self.old) }
+        ensures fault { OnErr result (Rose (faults self.old) (faults self.new)) }
+        ensures faults { faults self.old ≤ faults self.new };
+}

@@ -1,0 +1,5 @@
+pub mod Sessions
+pub mod Serving
+pub mod Outcomes
+pub mod Making
+pub mod Numbers

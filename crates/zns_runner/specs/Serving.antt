@@ -1,0 +1,23 @@
+-- The replies to acts that are served one after the other.
+use Rattle.std.specs.Prelude.{◌≡◌, ℕ, ◌≤◌, ◌^◌, List, [], ◌∷◌, ◌++◌, length, All}
+use Rattle.std.specs.List.{flat_map}
+use Rattle.zns_types.specs.declared.fields.GeometryFields.{GeometryFields}
+use Rattle.zone_model.specs.declared.act.Act.{Act}
+use Rattle.zone_model.specs.declared.reply.Reply.{Reply}
+use Rattle.zone_model.specs.Places.{Place}
+use Rattle.zone_model.specs.Entries.{posted}
+use Rattle.zone_model.specs.Replies.{reply_bytes}
+use Rattle.zone_model.specs.Sessions.{replies_bytes}
+use Rattle.session_file.specs.Results.{IsShort, part_of}
+
+-- the entries and the bytes that an act is answered behind a history
+pub record IsReply (g : GeometryFields) (h : List Place) (a : Act) (r : Reply) : Type 0 where
+  pub entries : r.entries.items ≡ posted g h a
+  pub read : r.read ≡ reply_bytes g h a
+  pub short : length r.read ≤ 2 ^ 28
+
+-- one reply for each act, and together what is written of the acts
+pub record AreReplies (g : GeometryFields) (acts : List Act) (replies : List Reply) : Type 0 where
+  pub count : length replies ≡ length acts
+  pub short : All IsShort replies
+  pub bytes : flat_map part_of replies ≡ replies_bytes g [] acts

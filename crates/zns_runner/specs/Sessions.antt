@@ -1,0 +1,24 @@
+-- The sessions that `one` serves, and what it writes.
+use Rattle.std.specs.Prelude.{◌≡◌, ℕ, ◌≤◌, List, [], ◌∷◌, All, codes}
+use Rattle.zone_model.specs.declared.act.Act.{Act}
+use Rattle.zone_model.specs.Sessions.{Recorded, IsSession, result_of, own_order}
+use Rattle.solo_drive.specs.Standing.{IsServed, IsUnlimited}
+
+-- an act on an I/O queue: a Write, a Read, or an opcode that isn't listed for I/O queues
+pub record IsBuiltAct (a : Act) : Type 0 where
+  pub queue : 1 ≤ a.queue
+  pub served : IsServed a
+
+-- a session of such acts, on a drive without limits and random write areas
+pub record IsBuilt (s : Recorded) : Type 0 where
+  pub session : IsSession s
+  pub unlimited : IsUnlimited s.geometry
+  pub acts : All IsBuiltAct s.acts
+
+-- the words by which the program is asked for this
+abbrev pub one_word : List (List ℕ)
+one_word = codes "one" ∷ []
+
+-- the result of the session in the order of its file
+abbrev pub output : Recorded → List ℕ
+output s = result_of s (own_order s.acts)

@@ -1,0 +1,36 @@
+ghost use Rattle.std.specs.Prelude.{◌≡◌, ◌↔◌, IfOk, IsTrue};
+
+use std::alloc::Global;
+use std::marker::Model;
+use zns_io::{Bytes, NoMemory};
+
+/// A word of the command line, seen as its bytes.
+#[derive(Drop)]
+pub struct Word {
+    text: Bytes,
+}
+
+impl Model for Word {
+    ghost use Rattle.std.specs.Prelude.{ℕ, List};
+
+    ghost Value = { List ℕ };
+
+    ghost view = { λ w. w.text };
+}
+
+impl Word {
+    /// The word of a text.
+    pub fn of(alloc: Global, text: &str) -> Result<Word, NoMemory>
+        ensures { IfOk result (λ w. w ≡ text.now) }
+    {
+        let text = Bytes::of(alloc, text.as_bytes())?;
+        Ok(Word { text })
+    }
+
+    /// Whether it is this word.
+    pub fn is(&self, text: &str) -> bool
+        ensures { IsTrue result ↔ (self.now ≡ text.now) }
+    {
+        self.text.as_slice() == text.as_bytes()
+    }
+}

@@ -1,0 +1,4 @@
+pub mod Blocks
+pub mod Views
+pub mod Cells
+pub mod Pieces

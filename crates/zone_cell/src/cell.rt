@@ -1,0 +1,205 @@
+ghost use Rattle.std.specs.Prelude.{◌≡◌, ℕ, ◌+◌, ◌*◌, ◌<◌, ◌≤◌, ◌^◌, ◌||◌, ◌==◌, IfOk, length, None, slice_index_or, option_copied, is_some, IfSome};
+ghost use Rattle.zns_types.specs.declared.fields.GeometryFields.{GeometryFields};
+ghost use Rattle.zns_types.specs.Geometry.{block_len};
+ghost use Rattle.zone_state.specs.Shown.{attribute_bits};
+ghost use Rattle.zone_cell.specs.Cells.{IsOf, IsBlocks, fresh, cleared, led, with_blocks, count_of};
+
+use crate::states::{is_active, is_writable};
+use std::alloc::Global;
+use std::marker::Model;
+use zns_io::NoMemory;
+use zns_types::{Geometry, State};
+use zrwa_window::Written;
+
+/// One zone: its state, its write pointer, and the blocks that were written since its last reset.
+#[derive(Drop)]
+pub struct ZoneCell {
+    zone: u32,
+    block_len: u32,
+    state: State,
+    pointer: u64,
+    window: bool,
+    finished: bool,
+    finish_recommended: bool,
+    reset_recommended: bool,
+    // The blocks one after another. What lies in a block that isn't marked means nothing.
+    bytes: Vec<u8>,
+    written: Written,
+}
+
+impl Model for ZoneCell {
+    ghost use Rattle.std.specs.Prelude.{length, vec_len};
+    ghost use Rattle.zone_cell.specs.Cells.{Cell};
+    ghost use Rattle.zone_cell.specs.Kept.{kept_blocks, IsSound};
+
+    ghost Value = { Cell };
+
+    ghost view = { λ c. record { zone = c.zone; block_len = c.block_len; state = c.state; pointer = c.pointer; window = c.window; finished = c.finished; finish_recommended = c.finish_recommended; reset_recommended = c.reset_recommended; blocks = kept_blocks c.block_len c.bytes.items c.written } };
+
+    ghost invariant = { λ c. IsSound c.block_len c.pointer (vec_len c.bytes) (length c.written) };
+}
+
+// The bytes of all blocks of a zone that can be written.
+fn all_bytes(g: &Geometry) -> usize
+    ensures exact { result ≡ g.now.fields.capacity * block_len g.now.fields }
+    ensures small { result ≤ 2 ^ 28 }
+    ensures few_blocks { g.now.fields.capacity ≤ 2 ^ 28 }
+{
+    g.fields().capacity as usize * g.block_len() as usize
+}
+
+impl ZoneCell {
+    /// A zone to which nothing was done.
+    pub fn new(alloc: Global, g: &Geometry, zone: u32) -> Result<ZoneCell, NoMemory>
+        requires { zone < g.now.fields.zones }
+        ensures fresh { IfOk result (λ c. c ≡ fresh g.now.fields zone) }
+        ensures kept { IfOk result (λ c. IsOf g.now.fields c) }
+    {
+        let bytes = vec![in alloc; 0; all_bytes(g)]?;
+        let written = Written::new(alloc, g.fields().capacity as u32)?;
+        Ok(ZoneCell {
+            zone,
+            block_len: g.block_len(),
+            state: State::Empty,
+            pointer: 0,
+            window: false,
+            finished: false,
+            finish_recommended: false,
+            reset_recommended: false,
+            bytes,
+            written,
+        })
+    }
+
+    /// The zone's number.
+    pub fn zone(&self) -> u32
+        ensures { result ≡ self.now.zone }
+    {
+        self.zone
+    }
+
+    /// The zone's state.
+    pub fn state(&self) -> State
+        ensures { result ≡ self.now.state }
+    {
+        self.state
+    }
+
+    /// The write pointer, in blocks from the start of the zone. It's kept in every state.
+    pub fn pointer(&self) -> u64
+        ensures exact { result ≡ self.now.pointer }
+        ensures within { result ≤ length self.now.blocks }
+        ensures small { result ≤ 2 ^ 28 }
+    {
+        self.pointer
+    }
+
+    /// Whether the zone has a random write area.
+    pub fn has_window(&self) -> bool
+        ensures { result ≡ self.now.window }
+    {
+        self.window
+    }
+
+    /// The bits that a zone descriptor shows: finished by the controller, a finish recommended, a
+    /// reset recommended, and that the zone has a random write area.
+    pub(crate) fn attributes(&self) -> u8
+        ensures { result ≡ attribute_bits self.now.finished self.now.finish_recommended self.now.reset_recommended self.now.window }
+    {
+        u8::from(self.finished)
+            + 2 * u8::from(self.finish_recommended)
+            + 4 * u8::from(self.reset_recommended)
+            + 8 * u8::from(self.window)
+    }
+
+    /// The bytes of a block.
+    pub(crate) fn block_len(&self) -> u32
+        ensures exact { result ≡ self.now.block_len }
+        ensures some { 1 ≤ result }
+        ensures small { result ≤ 4096 }
+    {
+        self.block_len
+    }
+
+    // The place of a block in the bytes.
+    fn place(&self, block: u64) -> usize
+        requires { block ≤ length self.now.blocks }
+        ensures exact { result ≡ block * self.now.block_len }
+        ensures small { result ≤ 2 ^ 28 }
+    {
+        block as usize * self.block_len as usize
+    }
+
+    /// Leads the zone to a state, with its pointer there. What the state has no use for ends.
+    pub(crate) fn lead(&mut self, state: State, pointer: u64)
+        requires { pointer ≤ length self.old.blocks }
+        ensures { self.new ≡ led state pointer self.old }
+    {
+        self.state = state;
+        self.pointer = pointer;
+        self.window = self.window && is_active(state);
+        self.finished = self.finished && is_writable(state);
+        self.finish_recommended = self.finish_recommended && is_active(state);
+        self.reset_recommended = self.reset_recommended && is_writable(state);
+    }
+
+    /// Gives the zone a random write area where one is asked for.
+    pub(crate) fn give_window(&mut self, asked: bool)
+        ensures { self.new ≡ record self.old { window = self.old.window || asked } }
+    {
+        self.window |= asked;
+    }
+
+    /// Notes what an excursion of a kind recommends, or that it finished the zone.
+    pub(crate) fn note(&mut self, kind: u8)
+        ensures { self.new ≡ record self.old { finished = self.old.finished || (kind == 1); finish_recommended = self.old.finish_recommended || (kind == 2); reset_recommended = self.old.reset_recommended || (kind == 3) } }
+    {
+        self.finished |= kind == 1;
+        self.finish_recommended |= kind == 2;
+        self.reset_recommended |= kind == 3;
+    }
+
+    /// Makes the zone Empty, as after a reset.
+    pub fn clear(&mut self)
+        ensures cleared { self.new ≡ cleared self.old }
+        ensures kept { (g : GeometryFields) → IsOf g self.old → IsOf g self.new }
+    {
+        self.state = State::Empty;
+        self.pointer = 0;
+        self.window = false;
+        self.finished = false;
+        self.finish_recommended = false;
+        self.reset_recommended = false;
+        self.written.clear();
+    }
+
+    /// Puts host data into the blocks from an offset on.
+    pub(crate) fn store(&mut self, from: u64, payload: &[u8])
+        requires blocks { IsBlocks self.old.block_len payload.now }
+        requires within { from + count_of self.old payload.now ≤ length self.old.blocks }
+        ensures { self.new ≡ record self.old { blocks = with_blocks self.old.block_len from payload.now self.old.blocks } }
+    {
+        let count = payload.len() / self.block_len as usize;
+        let place = self.place(from);
+        self.bytes[place..place + payload.len()].copy_from_slice(payload);
+        self.written.mark(from as u32, count as u32);
+    }
+
+    // Whether a block was written since the last reset.
+    fn is_written(&self, block: u64) -> bool
+        ensures { result ≡ is_some (slice_index_or self.now.blocks block None) }
+    {
+        block < u64::from(self.written.len()) && self.written.is_written(block as u32)
+    }
+
+    /// The bytes of a block, where it was written.
+    pub(crate) fn block(&self, block: u64) -> Option<&[u8]>
+        ensures bytes { option_copied result ≡ slice_index_or self.now.blocks block None }
+        ensures len { IfSome result (λ bytes. length bytes.now ≡ self.now.block_len) }
+    {
+        if !self.is_written(block) {
+            return None;
+        }
+        Some(&self.bytes[self.place(block)..self.place(block + 1)])
+    }
+}

@@ -1,0 +1,33 @@
+ghost use Rattle.std.specs.Prelude.{◌≡◌, ◌+◌, ◌*◌, ◌≤◌, None, length, slice_index_or};
+ghost use Rattle.zone_state.specs.Blocks.{seen_block};
+ghost use Rattle.zone_cell.specs.Cells.{IsOf, bytes_at};
+
+use crate::cell::ZoneCell;
+use zns_types::Geometry;
+
+impl ZoneCell {
+    /// Fills `out` with the bytes of `count` blocks from the offset `from` on: zeros for a block that
+    /// wasn't written since the last reset, and for those between the capacity and the zone's size.
+    pub fn get(&self, g: &Geometry, from: u64, count: u32, out: &mut [u8])
+        requires kept { IsOf g.now.fields self.now }
+        requires within { from + count ≤ g.now.fields.zone_size }
+        requires room { length out.old ≡ count * self.now.block_len }
+        ensures { out.new ≡ bytes_at self.now from count }
+    {
+        let len = self.block_len() as usize;
+        for i in 0..count as usize {
+            self.get_block(from + i as u64, &mut out[i * len..(i + 1) * len]);
+        }
+    }
+
+    // Fills `out` with the bytes of one block.
+    fn get_block(&self, block: u64, out: &mut [u8])
+        requires { length out.old ≡ self.now.block_len }
+        ensures { out.new ≡ seen_block self.now.block_len (slice_index_or self.now.blocks block None) }
+    {
+        match self.block(block) {
+            Some(bytes) => out.copy_from_slice(bytes),
+            None => out.fill(0),
+        }
+    }
+}

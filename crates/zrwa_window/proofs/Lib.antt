@@ -1,0 +1,4 @@
+pub mod Loops
+pub mod Words
+pub mod Counts
+pub mod MarkLists
