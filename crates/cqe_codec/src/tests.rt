@@ -1,4 +1,5 @@
 use crate::{Cqe, CqeErr, read, write};
+use std::test::Fail;
 use zns_types::Code;
 
 // An entry of a queue that is refused for good, one that may be tried again, and one with every
@@ -65,4 +66,14 @@ fn unused_bits_are_refused(rt: HostRuntime) {
         assert_eq!(rt; read(&bytes), Err(CqeErr::Reserved(last)));
     }
     assert_eq!(rt; read(&[0; 16]), Ok(Cqe::default()));
+}
+
+#[test]
+fn the_error_shows_the_byte(rt: HostRuntime) -> Result<(), Fail> {
+    let text = format!(in rt.alloc(); "{}", CqeErr::Reserved(0x4a))?;
+    assert_eq!(rt;
+        text.as_str(),
+        "reserved bits are set: the last byte is 0x4a"
+    );
+    Ok(())
 }

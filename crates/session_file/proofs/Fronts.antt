@@ -20,11 +20,11 @@ use Rattle.session_file.proofs.HeaderPlaces.{Begins, begins, header_bytes-in, wi
 use Rattle.session_file.proofs.Geometries.{unbroken}
 use Rattle.session_file.proofs.RecordLists.{AreRecords, are_records, Follow, follow}
 
-not_false : (b : Bool) → not b ≡ false → b ≡ true
+pub not_false : (b : Bool) → not b ≡ false → b ≡ true
 not_false true e = refl
 not_false false e = absurd cc
 
-not_true : (b : Bool) → b ≡ true → not b ≡ false
+pub not_true : (b : Bool) → b ≡ true → not b ≡ false
 not_true true e = refl
 not_true false e = absurd cc
 

@@ -9,3 +9,8 @@ pub mod Fronts
 pub mod RecordSteps
 pub mod Firsts
 pub mod Appending
+pub mod OrderLists
+pub mod OrderPlaces
+pub mod OrderCounts
+pub mod OrderFronts
+pub mod OrderSteps

@@ -2,3 +2,4 @@ pub mod Places
 pub mod FileRules
 pub mod Faults
 pub mod Results
+pub mod Orders

@@ -1,3 +1,6 @@
+ghost use Rattle.std.specs.Prelude.{◌≡◌};
+
+use std::alloc::AllocFailed;
 use thiserror::Error;
 use zns_io::NoMemory;
 
@@ -73,6 +76,23 @@ pub enum FileErr {
     Large { which: Which, number: u64 },
 }
 
+/// Something is wrong at an offset.
+pub fn bad(reason: Reason, offset: usize) -> FileErr
+    ensures { result ≡ FileErr.Bad reason offset }
+{
+    FileErr::Bad {
+        reason,
+        offset: offset as u64,
+    }
+}
+
+/// A number is over its limit.
+pub fn large(which: Which, number: u64) -> FileErr
+    ensures { result ≡ FileErr.Large which number }
+{
+    FileErr::Large { which, number }
+}
+
 impl From<NoMemory> for FileErr {
     ghost use Rattle.std.specs.Prelude.{◌≡◌};
     ghost use Rattle.session_file.specs.declared.file_err.FileErr.TheVariants as file_err;
@@ -80,6 +100,17 @@ impl From<NoMemory> for FileErr {
     ghost from_gives = { λ _ e. e ≡ file_err.NoMemory };
 
     fn from(_error: NoMemory) -> FileErr {
+        FileErr::NoMemory
+    }
+}
+
+impl<T: Drop> From<AllocFailed<T>> for FileErr {
+    ghost use Rattle.std.specs.Prelude.{◌≡◌};
+    ghost use Rattle.session_file.specs.declared.file_err.FileErr.TheVariants as file_err;
+
+    ghost from_gives = { λ _ e. e ≡ file_err.NoMemory };
+
+    fn from(_error: AllocFailed<T>) -> FileErr {
         FileErr::NoMemory
     }
 }

@@ -4,7 +4,7 @@ ghost use Rattle.session_file.specs.Places.{geometry_in, count_in};
 ghost use Rattle.session_file.specs.FileRules.{start_rows, end_rows, header_rows, in_header, over_limit, place_of};
 
 use crate::fields::{u16_at, u32_at, u64_at};
-use crate::file_err::{FileErr, Reason, Which};
+use crate::file_err::{FileErr, Reason, Which, bad, large};
 use zns_types::{Field, GeomErr, Geometry, GeometryFields};
 
 /// The bytes of a header.
@@ -21,7 +21,7 @@ pub struct Header {
 }
 
 // Where a number of the drive stands in the header.
-fn place_in_header(field: Field) -> u64
+fn place_in_header(field: Field) -> usize
     ensures { result ≡ place_of field }
 {
     match field {
@@ -43,10 +43,7 @@ fn place_in_header(field: Field) -> u64
 fn bad_number(field: Field) -> FileErr
     ensures { result ≡ FileErr.Bad Reason.Header (place_of field) }
 {
-    FileErr::Bad {
-        reason: Reason::Header,
-        offset: place_in_header(field),
-    }
+    bad(Reason::Header, place_in_header(field))
 }
 
 // What is said of a number over its limit.
@@ -60,7 +57,7 @@ fn large_number(field: Field, number: u64) -> FileErr
         Field::Depth => Which::Depth,
         _ => return bad_number(field),
     };
-    FileErr::Large { which, number }
+    large(which, number)
 }
 
 impl From<GeomErr> for FileErr {
@@ -86,16 +83,10 @@ fn check_start(bytes: &[u8]) -> Result<(), FileErr>
     ensures broken { IfErr result (λ e. first_holding (start_rows bytes.now) ≡ Some e) }
 {
     if bytes.len() < HEADER_LEN {
-        return Err(FileErr::Bad {
-            reason: Reason::Short,
-            offset: bytes.len() as u64,
-        });
+        return Err(bad(Reason::Short, bytes.len()));
     }
     if &bytes[..8] != b"ZNSQ0001".as_slice() {
-        return Err(FileErr::Bad {
-            reason: Reason::Magic,
-            offset: 0,
-        });
+        return Err(bad(Reason::Magic, 0));
     }
     Ok(())
 }
@@ -135,16 +126,10 @@ fn check_end(bytes: &[u8]) -> Result<u32, FileErr>
 {
     let commands = u32_at(bytes, 52);
     if commands > MOST_COMMANDS {
-        return Err(FileErr::Large {
-            which: Which::Commands,
-            number: u64::from(commands),
-        });
+        return Err(large(Which::Commands, u64::from(commands)));
     }
     if u64_at(bytes, 56) != 0 {
-        return Err(FileErr::Bad {
-            reason: Reason::Header,
-            offset: 56,
-        });
+        return Err(bad(Reason::Header, 56));
     }
     Ok(commands)
 }

@@ -4,6 +4,8 @@
 mod fields;
 mod file_err;
 mod header;
+mod order;
+mod ordering;
 mod putting;
 mod reading;
 mod records;
@@ -12,10 +14,13 @@ mod session;
 mod writing;
 
 pub use file_err::{FileErr, Reason, Which};
+pub use order::Order;
+pub use ordering::read_order;
 pub use reading::{read, read_front};
 pub use results::write_result;
 pub use session::Session;
 pub use writing::write;
+pub use zone_model::{Act, Acts, Journal, Replies, Reply};
 
 #[cfg(test)]
 mod tests;

@@ -6,7 +6,7 @@ ghost use Rattle.session_file.specs.Places.{length_at, act_at, next_at};
 ghost use Rattle.session_file.specs.FileRules.{record_rows};
 
 use crate::fields::{sqe_at, u16_at, u32_at};
-use crate::file_err::{FileErr, Reason, Which};
+use crate::file_err::{FileErr, Reason, Which, bad, large};
 use sqe_codec::{reply_len, transfer_len};
 use std::alloc::Global;
 use zns_io::{Bytes, NoMemory};
@@ -30,16 +30,6 @@ pub struct Progress {
 
     /// The bytes that the acts before it ask for.
     pub asked: u64,
-}
-
-// Something is wrong at an offset.
-fn bad(reason: Reason, offset: usize) -> FileErr
-    ensures { result ≡ FileErr.Bad reason offset }
-{
-    FileErr::Bad {
-        reason,
-        offset: offset as u64,
-    }
 }
 
 /// How far the record at an offset leads, or the first of its rules that is broken.
@@ -75,17 +65,11 @@ pub fn check_record(g: &Geometry, bytes: &[u8], before: Progress) -> Result<Prog
     }
     let sent = before.sent + u64::from(length);
     if sent > MOST_MOVED {
-        return Err(FileErr::Large {
-            which: Which::Sent,
-            number: sent,
-        });
+        return Err(large(Which::Sent, sent));
     }
     let asked = before.asked + u64::from(reply_len(g, queue == 0, &sqe));
     if asked > MOST_MOVED {
-        return Err(FileErr::Large {
-            which: Which::Replies,
-            number: asked,
-        });
+        return Err(large(Which::Replies, asked));
     }
     let next = at + RECORD_LEN + length as usize;
     if bytes.len() < next {

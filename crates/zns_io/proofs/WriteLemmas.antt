@@ -1,13 +1,10 @@
 -- Told bytes that are written piece by piece.
-use Rattle.std.proofs.Common.{◌≡◌, ℕ, ◌-◌, ◌<◌, List, [], ◌++◌, length, take, drop, Option, Some, None, refl, sym, ap, ◌∙◌, subst, arith, append_assoc, length-append, length-drop}
-use Rattle.std.proofs.lemmas.List.{append-nil, nil_from_length, take-append-drop, take_all, take_at}
+use Rattle.std.proofs.Common.{◌≡◌, ℕ, ◌-◌, ◌<◌, List, ◌++◌, length, take, drop, Option, Some, None, refl, sym, ap, ◌∙◌, subst, arith, append_assoc, length-append, length-drop}
+use Rattle.std.proofs.lemmas.List.{take-append-drop, take_all, take_at}
 use Rattle.zns_io.specs.Told.{Gains}
 use Rattle.zns_io.specs.Writing.{GainsPrefix}
 
-pub Gains-none : (told : Option (List ℕ)) → Gains told told []
-Gains-none None = tt
-Gains-none (Some xs) = sym (append-nil xs)
-
+-- gained in two pieces, one after the other
 pub Gains-then : (a b c : Option (List ℕ)) (front more : List ℕ) → Gains a b front → Gains b c more → Gains a c (front ++ more)
 Gains-then a b None front more p q = tt
 Gains-then a None (Some zs) front more p q = absurd q
@@ -20,9 +17,7 @@ pub record WrittenUpTo (before now : Option (List ℕ)) (bytes rest : List ℕ) 
   pub whole : bytes ≡ front ++ rest
   pub gained : Gains before now front
 
-pub written_none : (told : Option (List ℕ)) (bytes : List ℕ) → WrittenUpTo told told bytes bytes
-written_none told bytes = record { front = []; whole = search; gained = Gains-none told }
-
+-- one more piece of what is left
 pub written_then : (a b c : Option (List ℕ)) (bytes rest : List ℕ) (count : ℕ) → WrittenUpTo a b bytes rest → Gains b c (take count rest) → WrittenUpTo a c bytes (take (length rest - count) (drop count rest))
 written_then a b c bytes rest count w q = record {
   front = w.front ++ take count rest;
@@ -32,10 +27,7 @@ written_then a b c bytes rest count w q = record {
   gained = Gains-then a b c w.front (take count rest) w.gained q;
 }
 
-pub written_all : (a b : Option (List ℕ)) (bytes rest : List ℕ) → WrittenUpTo a b bytes rest → length rest ≡ 0 → Gains a b bytes
-written_all a b bytes rest w e =
-    let P : List ℕ → Type 0 = λ f. Gains a b f in subst P (sym (w.whole ∙ rw (nil_from_length rest e) (append-nil w.front))) w.gained
-
+-- what a failure leaves while something is left
 pub written_prefix : (a b c : Option (List ℕ)) (bytes rest : List ℕ) → WrittenUpTo a b bytes rest → c ≡ b → 0 < length rest → GainsPrefix a c bytes
 written_prefix a b c bytes rest w same some = rw same (
   length w.front,

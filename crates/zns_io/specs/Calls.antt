@@ -3,7 +3,8 @@ use Rattle.std.specs.Prelude.{ℕ, Bool, List, ◌==◌}
 use Rattle.std.specs.List.{list_any}
 use Rattle.zns_io.specs.Faults.{next_count, count_after}
 
--- The numbers of the calls that fail, how many calls were made, and how many of them failed.
+-- The numbers of the calls that fail, how many calls were made, and how many of them failed. Both
+-- counts stand still at the last number of a `u64`, which is above each number of a list of `u32`.
 pub record Calls : Type 0 where
   pub failing : List ℕ
   pub made : ℕ

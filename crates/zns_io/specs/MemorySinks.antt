@@ -11,17 +11,17 @@ pub record SinkBytes : Type 0 where
   pub piece : ℕ
 
 -- what a sink tells that may have dropped a write
-abbrev pub told_bytes : SinkBytes → Option (List ℕ)
-told_bytes sink = if sink.whole then Some sink.kept else None
+abbrev pub bytes_told : SinkBytes → Option (List ℕ)
+bytes_told sink = if sink.whole then Some sink.kept else None
 
 -- how many of the offered bytes a write takes
-abbrev pub taken_len : ℕ → List ℕ → ℕ
-taken_len piece offered = min (length offered) piece
+abbrev pub write_len : ℕ → List ℕ → ℕ
+write_len piece offered = min (length offered) piece
 
 -- the sink after a write, which is dropped where it passes the room
-abbrev pub after_write : SinkBytes → List ℕ → SinkBytes
-after_write sink offered =
-    let n = taken_len sink.piece offered in
+abbrev pub sink_after_write : SinkBytes → List ℕ → SinkBytes
+sink_after_write sink offered =
+    let n = write_len sink.piece offered in
     let fits = nat_le (length sink.kept + n) sink.room in
     record {
       kept = if fits then sink.kept ++ take n offered else sink.kept;
@@ -39,19 +39,19 @@ pub record FailingSink : Type 0 where
   pub calls : Calls
 
 -- the next write fails
-abbrev pub fails_next : FailingSink → Bool
-fails_next sink = is_due sink.calls || nat_le sink.room (length sink.taken)
+abbrev pub is_due_or_full : FailingSink → Bool
+is_due_or_full sink = is_due sink.calls || nat_le sink.room (length sink.taken)
 
 -- how many of the offered bytes a write takes that doesn't fail
-abbrev pub fitting_len : FailingSink → List ℕ → ℕ
-fitting_len sink offered = min (taken_len sink.piece offered) (sink.room - length sink.taken)
+abbrev pub write_len_in_room : FailingSink → List ℕ → ℕ
+write_len_in_room sink offered = min (write_len sink.piece offered) (sink.room - length sink.taken)
 
 -- the sink after a write
-abbrev pub after_call : FailingSink → List ℕ → FailingSink
-after_call sink offered =
+abbrev pub sink_after_call : FailingSink → List ℕ → FailingSink
+sink_after_call sink offered =
     record {
-      taken = if fails_next sink then sink.taken else sink.taken ++ take (fitting_len sink offered) offered;
+      taken = if is_due_or_full sink then sink.taken else sink.taken ++ take (write_len_in_room sink offered) offered;
       room = sink.room;
       piece = sink.piece;
-      calls = calls_after sink.calls (fails_next sink);
+      calls = calls_after sink.calls (is_due_or_full sink);
     }

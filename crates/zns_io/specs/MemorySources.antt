@@ -8,18 +8,18 @@ pub record SourceBytes : Type 0 where
   pub piece : ℕ
 
 -- how many bytes a read gives into so much room
-abbrev pub given_len : SourceBytes → ℕ → ℕ
-given_len source room = min (length source.left) (min room source.piece)
+abbrev pub read_len : SourceBytes → ℕ → ℕ
+read_len source room = min (length source.left) (min room source.piece)
 
 -- what stands in `out` after a read
-abbrev pub given : SourceBytes → List ℕ → List ℕ
-given source out =
-    let n = given_len source (length out) in take n source.left ++ drop n out
+abbrev pub out_after_read : SourceBytes → List ℕ → List ℕ
+out_after_read source out =
+    let n = read_len source (length out) in take n source.left ++ drop n out
 
 -- the source after a read into so much room
-abbrev pub after_read : SourceBytes → ℕ → SourceBytes
-after_read source room =
-    record { left = drop (given_len source room) source.left; piece = source.piece }
+abbrev pub source_after_read : SourceBytes → ℕ → SourceBytes
+source_after_read source room =
+    record { left = drop (read_len source room) source.left; piece = source.piece }
 
 -- A source of which some calls fail.
 pub record FailingSource : Type 0 where
@@ -27,9 +27,9 @@ pub record FailingSource : Type 0 where
   pub calls : Calls
 
 -- the source after a read into so much room, which fails where it is due to
-abbrev pub after_call : FailingSource → ℕ → FailingSource
-after_call source room =
+abbrev pub source_after_call : FailingSource → ℕ → FailingSource
+source_after_call source room =
     record {
-      bytes = if is_due source.calls then source.bytes else after_read source.bytes room;
+      bytes = if is_due source.calls then source.bytes else source_after_read source.bytes room;
       calls = calls_after source.calls (is_due source.calls);
     }

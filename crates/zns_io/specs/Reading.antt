@@ -15,8 +15,8 @@ ReadsFront None now count = ⊤
 ReadsFront (Some before) now count = (count ≤ length before) × (now ≡ Some (drop count before))
 
 -- At most so many bytes were read, and the source tells the rest.
-abbrev pub ReadsAtMostFront : Option (List ℕ) → Option (List ℕ) → ℕ → Type 0
-ReadsAtMostFront before now most = (count : ℕ) × (count ≤ most) × ReadsFront before now count
+abbrev pub ReadsFrontUpTo : Option (List ℕ) → Option (List ℕ) → ℕ → Type 0
+ReadsFrontUpTo before now most = (count : ℕ) × (count ≤ most) × ReadsFront before now count
 
 -- The answer goes by whether more bytes were told than a limit.
 abbrev pub IsByLimit : Option (List ℕ) → ℕ → Result Bytes ReadErr → Type 0

@@ -7,9 +7,9 @@ pub record Stream : Type 0 where
   pub faults : ℕ
 
 -- what is told now, by one that told something at first
-abbrev pub told_since : Option (List ℕ) → Option (List ℕ) → Option (List ℕ)
-told_since None now = None
-told_since (Some first) now = now
+abbrev pub bytes_told_since : Option (List ℕ) → Option (List ℕ) → Option (List ℕ)
+bytes_told_since None now = None
+bytes_told_since (Some first) now = now
 
 -- one that told something at first tells something now
 abbrev pub StaysTold : Option (List ℕ) → Option (List ℕ) → Type 0

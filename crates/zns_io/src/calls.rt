@@ -36,7 +36,7 @@ impl CallPlan {
     pub(crate) fn count(&mut self, is_refused: bool) -> Result<(), Failed>
         ensures fails { is_err result ≡ (is_due self.old || is_refused) }
         ensures counted { self.new ≡ calls_after self.old (is_due self.old || is_refused) }
-        ensures faults { self.old.faults ≤ self.new.faults }
+        ensures never_falls { self.old.faults ≤ self.new.faults }
     {
         let fails = self.is_due() || is_refused;
         self.made = self.made.saturating_add(1);

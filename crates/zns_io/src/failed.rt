@@ -2,5 +2,5 @@ use thiserror::Error;
 
 /// A read or a write failed.
 #[derive(Clone, Copy, Debug, PartialEq, Eq, Error)]
-#[error("the device failed")]
+#[error("a read or a write failed")]
 pub struct Failed;

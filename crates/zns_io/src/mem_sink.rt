@@ -1,5 +1,5 @@
 ghost use Rattle.std.specs.Prelude.{◌≡◌, ℕ, ◌<◌, ◌≤◌, [], length, take, Some, IfOk, is_err};
-ghost use Rattle.zns_io.specs.MemorySinks.{FailingSink, fails_next, fitting_len, after_call};
+ghost use Rattle.zns_io.specs.MemorySinks.{FailingSink, is_due_or_full, write_len_in_room, sink_after_call};
 
 use crate::calls::CallPlan;
 use crate::failed::Failed;
@@ -58,11 +58,11 @@ impl Sink for MemSink {
 
     fn write(&mut self, piece: &[u8]) -> Result<usize, Failed>
         requires { 0 < length piece.now }
-        ensures fails { is_err result ≡ fails_next self.old }
-        ensures count { IfOk result (λ n. n ≡ fitting_len self.old piece.now) }
-        ensures after { self.new ≡ after_call self.old piece.now }
+        ensures fails { is_err result ≡ is_due_or_full self.old }
+        ensures count { IfOk result (λ n. n ≡ write_len_in_room self.old piece.now) }
+        ensures after { self.new ≡ sink_after_call self.old piece.now }
         ensures some { IfOk result (λ n. 1 ≤ n) }
-        ensures faults { self.old.calls.faults ≤ self.new.calls.faults }
+        ensures never_falls { self.old.calls.faults ≤ self.new.calls.faults }
     {
         let room = self.sink.room_left();
         self.calls.count(room == 0)?;

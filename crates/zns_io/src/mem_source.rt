@@ -1,7 +1,7 @@
 ghost use Rattle.std.specs.Prelude.{◌≡◌, ℕ, ◌<◌, ◌≤◌, length, take, Ok, Some, IfOk, OnOk, OnErr, is_err};
 ghost use Rattle.std.specs.Io.KnownBytes.{IsAtEnd};
 ghost use Rattle.zns_io.specs.Calls.{is_due};
-ghost use Rattle.zns_io.specs.MemorySources.{given_len, given, after_call};
+ghost use Rattle.zns_io.specs.MemorySources.{read_len, out_after_read, source_after_call};
 
 use crate::bytes::Bytes;
 use crate::calls::CallPlan;
@@ -48,12 +48,12 @@ impl Source for MemSource {
     fn read(&mut self, out: &mut [u8]) -> Result<usize, Failed>
         requires { 0 < length out.old }
         ensures fails { is_err result ≡ is_due self.old.calls }
-        ensures count { IfOk result (λ n. n ≡ given_len self.old.bytes (length out.old)) }
-        ensures given { OnOk result (out.new ≡ given self.old.bytes out.old) }
+        ensures count { IfOk result (λ n. n ≡ read_len self.old.bytes (length out.old)) }
+        ensures out { OnOk result (out.new ≡ out_after_read self.old.bytes out.old) }
         ensures untouched { OnErr result (out.new ≡ out.old) }
-        ensures after { self.new ≡ after_call self.old (length out.old) }
+        ensures after { self.new ≡ source_after_call self.old (length out.old) }
         ensures end { IfOk result (λ n. n ≡ 0 → IsAtEnd (Some self.new.bytes.left)) }
-        ensures faults { self.old.calls.faults ≤ self.new.calls.faults }
+        ensures never_falls { self.old.calls.faults ≤ self.new.calls.faults }
     {
         self.calls.count(false)?;
         self.source.read(out)

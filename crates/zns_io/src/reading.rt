@@ -1,7 +1,7 @@
 ghost use Rattle.std.specs.Prelude.{◌≡◌, ℕ, ◌+◌, ◌<◌, ◌≤◌, ◌^◌, List, length, IfOk, OnOk, IsErrOf};
 ghost use Rattle.std.specs.Io.KnownBytes.{IsAtEnd};
 ghost use Rattle.zns_io.specs.Faults.{Rose};
-ghost use Rattle.zns_io.specs.Reading.{ReadsAll, ReadsFront, ReadsAtMostFront, IsByLimit};
+ghost use Rattle.zns_io.specs.Reading.{ReadsAll, ReadsFront, ReadsFrontUpTo, IsByLimit};
 
 use crate::bytes::Bytes;
 use crate::read_err::ReadErr;
@@ -15,18 +15,19 @@ const PIECE: usize = 4096;
 /// read.
 pub fn read_all<S: Source>(alloc: Global, source: &mut S, limit: u64) -> Result<Bytes, ReadErr>
     requires { limit < 2 ^ 63 }
+    // What came, and what is left, where the source tells it.
     ensures all { IfOk result (ReadsAll (S.left source.old) (S.left source.new)) }
     ensures end { OnOk result (IsAtEnd (S.left source.new)) }
     ensures limit { IfOk result (λ bytes. length bytes ≤ limit) }
-
     ensures over { IsErrOf result ReadErr.Over
         → ReadsFront (S.left source.old) (S.left source.new) (limit + 1) }
     ensures by_limit { IsByLimit (S.left source.old) limit result }
-    ensures at_most { ReadsAtMostFront (S.left source.old) (S.left source.new) (limit + 1) }
+    ensures at_most { ReadsFrontUpTo (S.left source.old) (S.left source.new) (limit + 1) }
 
+    // Every fault is counted.
     ensures fault { IsErrOf result ReadErr.Failed
         → Rose (S.faults source.old) (S.faults source.new) }
-    ensures faults { S.faults source.old ≤ S.faults source.new }
+    ensures never_falls { S.faults source.old ≤ S.faults source.new }
 {
     let mut all = Vec::new(alloc);
     let mut piece = [0; PIECE];

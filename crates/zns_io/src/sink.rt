@@ -22,5 +22,5 @@ pub trait Sink {
 
         ensures kept { OnErr result (taken self.new ≡ taken self.old) }
         ensures fault { OnErr result (Rose (faults self.old) (faults self.new)) }
-        ensures faults { faults self.old ≤ faults self.new };
+        ensures never_falls { faults self.old ≤ faults self.new };
 }

@@ -23,5 +23,5 @@ pub trait Source {
 
         ensures kept { OnErr result (left self.new ≡ left self.old) }
         ensures fault { OnErr result (Rose (faults self.old) (faults self.new)) }
-        ensures faults { faults self.old ≤ faults self.new };
+        ensures never_falls { faults self.old ≤ faults self.new };
 }

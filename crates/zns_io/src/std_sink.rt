@@ -18,12 +18,12 @@ pub struct StdSink<W: Write> {
 }
 
 impl<W: Write> Model for StdSink<W> {
-    ghost use Rattle.zns_io.specs.Streams.{Stream, told_since, StaysTold};
+    ghost use Rattle.zns_io.specs.Streams.{Stream, bytes_told_since, StaysTold};
 
     ghost Value = { Stream };
 
     ghost view = { λ s. record {
-      told = told_since (W.contents s.first.value) (W.contents s.writer);
+      told = bytes_told_since (W.contents s.first.value) (W.contents s.writer);
       faults = s.failures;
     } };
 
@@ -56,7 +56,7 @@ impl<W: Write> Sink for StdSink<W> {
         ensures bytes { IfOk result (λ n. Gains self.old.told self.new.told (take n piece.now)) }
         ensures kept { OnErr result (self.new.told ≡ self.old.told) }
         ensures counted { self.new.faults ≡ count_after self.old.faults (is_err result) }
-        ensures faults { self.old.faults ≤ self.new.faults }
+        ensures never_falls { self.old.faults ≤ self.new.faults }
     {
         match self.writer.write(piece) {
             Ok(count) if count > 0 => Ok(count),

@@ -19,12 +19,12 @@ pub struct StdSource<R: Read> {
 }
 
 impl<R: Read> Model for StdSource<R> {
-    ghost use Rattle.zns_io.specs.Streams.{Stream, told_since, StaysTold};
+    ghost use Rattle.zns_io.specs.Streams.{Stream, bytes_told_since, StaysTold};
 
     ghost Value = { Stream };
 
     ghost view = { λ s. record {
-      told = told_since (R.remaining s.first.value) (R.remaining s.reader);
+      told = bytes_told_since (R.remaining s.first.value) (R.remaining s.reader);
       faults = s.failures;
     } };
 
@@ -57,7 +57,7 @@ impl<R: Read> Source for StdSource<R> {
         ensures end { IfOk result (λ n. n ≡ 0 → IsAtEnd self.new.told) }
         ensures kept { OnErr result (self.new.told ≡ self.old.told) }
         ensures counted { self.new.faults ≡ count_after self.old.faults (is_err result) }
-        ensures faults { self.old.faults ≤ self.new.faults }
+        ensures never_falls { self.old.faults ≤ self.new.faults }
     {
         match self.reader.read(out) {
             Ok(count) => Ok(count),

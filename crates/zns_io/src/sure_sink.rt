@@ -1,5 +1,5 @@
 ghost use Rattle.std.specs.Prelude.{◌≡◌, ℕ, ◌<◌, ◌≤◌, ◌-◌, [], true, length, take, Ok, IfOk};
-ghost use Rattle.zns_io.specs.MemorySinks.{told_bytes, taken_len, after_write};
+ghost use Rattle.zns_io.specs.MemorySinks.{bytes_told, write_len, sink_after_write};
 
 use crate::failed::Failed;
 use crate::no_memory::NoMemory;
@@ -60,14 +60,14 @@ impl SureSink {
 }
 
 impl Sink for SureSink {
-    ghost taken = { told_bytes };
+    ghost taken = { bytes_told };
 
     ghost faults = { λ _. 0 };
 
     fn write(&mut self, piece: &[u8]) -> Result<usize, Failed>
         requires { 0 < length piece.now }
-        ensures count { result ≡ Ok (taken_len self.old.piece piece.now) }
-        ensures after { self.new ≡ after_write self.old piece.now }
+        ensures count { result ≡ Ok (write_len self.old.piece piece.now) }
+        ensures after { self.new ≡ sink_after_write self.old piece.now }
         ensures some { IfOk result (λ n. 1 ≤ n) }
     {
         let count = piece.len().min(self.piece as usize);

@@ -1,6 +1,6 @@
 ghost use Rattle.std.specs.Prelude.{◌≡◌, ℕ, ◌<◌, ◌≤◌, length, take, Ok, Some, IfOk, OnErr};
 ghost use Rattle.std.specs.Io.KnownBytes.{IsAtEnd};
-ghost use Rattle.zns_io.specs.MemorySources.{given_len, given, after_read};
+ghost use Rattle.zns_io.specs.MemorySources.{read_len, out_after_read, source_after_read};
 
 use crate::bytes::Bytes;
 use crate::failed::Failed;
@@ -47,9 +47,9 @@ impl Source for SureSource {
 
     fn read(&mut self, out: &mut [u8]) -> Result<usize, Failed>
         requires { 0 < length out.old }
-        ensures count { result ≡ Ok (given_len self.old (length out.old)) }
-        ensures given { out.new ≡ given self.old out.old }
-        ensures after { self.new ≡ after_read self.old (length out.old) }
+        ensures count { result ≡ Ok (read_len self.old (length out.old)) }
+        ensures out { out.new ≡ out_after_read self.old out.old }
+        ensures after { self.new ≡ source_after_read self.old (length out.old) }
         ensures end { IfOk result (λ n. n ≡ 0 → IsAtEnd (Some self.new.left)) }
     {
         let rest = &self.bytes.as_slice()[self.at..];

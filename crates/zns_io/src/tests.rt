@@ -104,6 +104,7 @@ fn a_sink_in_memory_takes_a_front(rt: HostRuntime) -> Result<(), Fail> {
 fn a_sure_sink_drops_what_passes_its_room(rt: HostRuntime) -> Result<(), Fail> {
     let alloc = rt.alloc();
     let bytes = counted(alloc, 150)?;
+    // The writes are of 60, 60 and 30 bytes.
     for (room, len) in [(150, 150), (149, 120), (100, 90), (59, 30), (29, 0)] {
         let mut sink = SureSink::new(alloc, room, 60)?;
         assert_eq!(rt; write_all(&mut sink, &bytes), Ok(()));

@@ -12,7 +12,7 @@ pub fn write_all<K: Sink>(sink: &mut K, bytes: &[u8]) -> Result<(), Failed>
     ensures prefix { OnErr result (GainsPrefix (K.taken sink.old) (K.taken sink.new) bytes.now) }
 
     ensures fault { OnErr result (Rose (K.faults sink.old) (K.faults sink.new)) }
-    ensures faults { K.faults sink.old ≤ K.faults sink.new }
+    ensures never_falls { K.faults sink.old ≤ K.faults sink.new }
 {
     let mut rest = bytes;
     while !rest.is_empty() {

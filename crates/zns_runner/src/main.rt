@@ -10,10 +10,11 @@ mod word;
 use crate::status::Status;
 use crate::top::top_plain;
 use crate::word::Word;
-use std::alloc::Global;
 use std::io::Write;
 use std::process::ExitCode;
-use std::{env, io};
+use std::env;
+use std::env::Env;
+use std::io;
 use zns_io::{NoMemory, StdSink, StdSource};
 
 // The words behind the program's name. Words that aren't text are none that mean anything.
@@ -44,8 +45,6 @@ fn run(rt: &(impl Env + AllocGlobal + Input + Print)) -> Status {
 
 fn main(rt: HostRuntime) -> ExitCode {
     let status = run(&rt);
-    if let Ok(line) = status.line(rt.alloc()) {
-        let _ = io::ewriter(&rt).write_all(line.as_slice());
-    }
+    let _ = eprint!(rt; "{status}");
     ExitCode::from(status.number())
 }

@@ -1,8 +1,9 @@
 ghost use Rattle.std.specs.Prelude.{◌≡◌, ◌+◌, ◌*◌, ◌≤◌, ◌<◌, IfOk, OnOk, [], ◌∷◌, ◌++◌, All, length};
 ghost use Rattle.zone_model.specs.Answers.{answered};
-ghost use Rattle.zone_model.specs.Entries.{posted};
-ghost use Rattle.zone_model.specs.Replies.{reply_bytes};
-ghost use Rattle.zone_model.specs.Sessions.{IsAct};
+ghost use Rattle.zone_model.specs.Notices.{changed};
+ghost use Rattle.zone_model.specs.Replies.{descriptors};
+ghost use Rattle.zone_model.specs.Reports.{bytes_of_all, changed_page};
+ghost use Rattle.zone_model.specs.Sessions.{IsAct, own_order, result_bytes};
 ghost use Rattle.zns_runner.specs.Sessions.{IsBuilt, IsBuiltAct, output};
 ghost use Rattle.zns_runner.specs.Serving.{IsReply, AreReplies};
 
@@ -56,6 +57,35 @@ fn serve_acts(alloc: Global, drive: &mut Solo, acts: Vec<Act>) -> Result<Replies
     Ok(replies)
 }
 
+// The descriptors of all zones of a drive.
+fn descriptors_of(alloc: Global, drive: &Solo) -> Result<Vec<u8>, NoMemory>
+    ensures { IfOk result (λ v. v.items ≡ bytes_of_all (descriptors drive.now.geometry (answered drive.now.geometry drive.now.acts))) }
+{
+    let zones = drive.geometry().fields().zones as usize;
+    let mut out = vec![in alloc; 0; 64 * zones]?;
+    drive.descriptors(&mut out);
+    Ok(out)
+}
+
+// The page of a drive's changed zones.
+fn page_of(alloc: Global, drive: &Solo) -> Result<Vec<u8>, NoMemory>
+    ensures { IfOk result (λ v. v.items ≡ changed_page drive.now.geometry (changed drive.now.geometry (answered drive.now.geometry drive.now.acts))) }
+{
+    let mut out = vec![in alloc; 0; 4096]?;
+    drive.page(&mut out);
+    Ok(out)
+}
+
+// The result file of a drive that served acts, by the replies to them.
+fn result_of(alloc: Global, drive: &Solo, replies: &Replies) -> Result<Bytes, NoMemory>
+    requires { AreReplies drive.now.geometry drive.now.acts replies.now.replies }
+    ensures { IfOk result (λ b. b ≡ result_bytes drive.now.geometry (own_order drive.now.acts) drive.now.acts) }
+{
+    let descriptors = descriptors_of(alloc, drive)?;
+    let page = page_of(alloc, drive)?;
+    write_result(alloc, drive.journal(), replies, &descriptors, &page)
+}
+
 /// What a session gives in the order of its file: the whole result file.
 pub fn serve(alloc: Global, session: Session) -> Result<Bytes, NoMemory>
     requires { IsBuilt session }
@@ -64,10 +94,5 @@ pub fn serve(alloc: Global, session: Session) -> Result<Bytes, NoMemory>
     let (geometry, acts) = session.into_parts();
     let mut drive = Solo::new(alloc, geometry, acts.len())?;
     let replies = serve_acts(alloc, &mut drive, acts.into_vec())?;
-    let zones = geometry.fields().zones as usize;
-    let mut descriptors = vec![in alloc; 0; 64 * zones]?;
-    let mut page = vec![in alloc; 0; 4096]?;
-    drive.descriptors(&mut descriptors);
-    drive.page(&mut page);
-    write_result(alloc, drive.journal(), &replies, &descriptors, &page)
+    result_of(alloc, &drive, &replies)
 }

@@ -3,6 +3,7 @@ ghost use Rattle.zns_runner.specs.Numbers.{number_of};
 
 use session_file::Reason;
 use std::alloc::Global;
+use std::fmt;
 use zns_io::{Bytes, NoMemory};
 
 /// How a run of the program ended.
@@ -55,20 +56,27 @@ impl Status {
 
     /// The line that is said of it on standard error; empty where all is well.
     pub fn line(&self, alloc: Global) -> Result<Bytes, NoMemory> {
-        let line = match self {
-            Status::Ok => String::new(alloc),
-            Status::NoMemory => format!(in alloc; "zns_runner: no memory\n")?,
-            Status::Usage => {
-                format!(in alloc;
-                    "zns_runner: usage: one, run, check, show, host, gen NUMBER COUNT\n"
-                )?
-            }
-            Status::ReadFault => format!(in alloc; "zns_runner: read fault\n")?,
-            Status::WriteFault => format!(in alloc; "zns_runner: write fault\n")?,
-            Status::BadFile { reason, offset } => {
-                format!(in alloc; "zns_runner: bad file: {reason:?} at {offset}\n")?
-            }
-        };
+        let line = format!(in alloc; "{self}")?;
         Ok(Bytes::from_vec(line.into_bytes()))
+    }
+}
+
+impl fmt::Display for Status {
+    fn fmt<W: fmt::Write>(&self, f: &mut fmt::Formatter<W>) -> fmt::Result {
+        match self {
+            Status::Ok => Ok(()),
+            Status::NoMemory => writeln!(f, "zns_runner: no memory"),
+            Status::Usage => {
+                writeln!(
+                    f,
+                    "zns_runner: usage: one, run, check, show, host, gen NUMBER COUNT"
+                )
+            }
+            Status::ReadFault => writeln!(f, "zns_runner: read fault"),
+            Status::WriteFault => writeln!(f, "zns_runner: write fault"),
+            Status::BadFile { reason, offset } => {
+                writeln!(f, "zns_runner: bad file: {reason:?} at {offset}")
+            }
+        }
     }
 }

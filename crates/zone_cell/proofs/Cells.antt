@@ -1,5 +1,5 @@
 -- What stays as cells change.
-use Rattle.std.proofs.Common.{◌≡◌, ℕ, List, ◌∙◌}
+use Rattle.std.proofs.Common.{ℕ, List, ◌∙◌}
 use Rattle.zns_types.specs.declared.fields.GeometryFields.{GeometryFields}
 use Rattle.zns_types.specs.declared.state.State.{State}
 use Rattle.zone_cell.specs.Cells.{Cell, IsOf, led, with_blocks}

@@ -1,18 +1,21 @@
 -- What the fields of a cell say of what contracts see.
-use Rattle.std.proofs.Common.{◌≡◌, ℕ, ◌+◌, ◌*◌, ◌-◌, ◌/◌, ◌<◌, ◌≤◌, ◌^◌, Bool, true, false, cond, inl, inr, Option, Some, None, List, ◌++◌, take, drop, length, get_or, refl, sym, ap, ◌∙◌, arith, vec_len}
+use Rattle.std.proofs.Common.{◌≡◌, ℕ, ◌+◌, ◌*◌, ◌-◌, ◌/◌, ◌<◌, ◌≤◌, Bool, true, false, cond, inl, inr, Option, Some, None, List, take, drop, length, get_or, map, refl, sym, ap, ◌∙◌, arith, vec_len}
 use Rattle.std.proofs.Math.Nat.{add-mul}
 use Rattle.std.proofs.lemmas.Nat.{mul-le}
 use Rattle.std.proofs.lemmas.Bool.{cases_lt, true≢false}
 use Rattle.std.specs.Prelude.{is_some}
 use Rattle.std.specs.Vec.{with_items}
-use Rattle.std.proofs.lemmas.List.{with_items_is, get_or_past, length-take, length-drop, length-append}
+use Rattle.std.proofs.lemmas.List.{with_items_is, get_or_past, length-take, length-drop, length-append, length-map, same_lists, get_or_default, get_or-map}
 use borrow.Rule.Slice.PartMut.{put_mid}
-use Rattle.zrwa_window.specs.Marks.{marked}
-use Rattle.zone_cell.specs.Cells.{Cell, with_blocks}
-use Rattle.zone_cell.specs.Kept.{IsSound}
+use Rattle.zrwa_window.specs.Marks.{marked, holes}
+use Rattle.zns_types.specs.declared.fields.GeometryFields.{GeometryFields}
+use Rattle.zns_types.specs.Geometry.{block_len}
+use Rattle.zone_cell.specs.Cells.{Cell, IsOf, with_blocks, bytes_at}
+use Rattle.zone_cell.specs.Kept.{IsSound, kept_blocks}
 use Rattle.zone_cell.specs.declared.cell.ZoneCell.TheInside.{Inside}
 use Rattle.zone_cell.specs.contracts.cell.ZoneCell.{the_view}
 use Rattle.zone_cell.proofs.Blocks.{length-kept, get_or-kept, kept-put}
+use Rattle.zone_cell.proofs.Pieces.{whole_run}
 
 is_some_kept : (m : Bool) (x : List ℕ) → m ≡ is_some (cond m (Some x) None)
 is_some_kept true x = refl
@@ -81,3 +84,26 @@ block_stands a c b is some =
 pub none_block : {X : Type 0} (o : Option X) → is_some o ≡ false → None ≡ o
 none_block None e = refl
 none_block (Some x) e = absurd (true≢false e)
+
+-- ---- all blocks
+
+pub marks_are : (a : Inside) (c : Cell) → the_view a ≡ c → a.written ≡ map is_some c.blocks
+marks_are a c is =
+    let n = marks_of a c is in
+    same_lists a.written (map is_some c.blocks) (n ∙ sym (length-map c.blocks is_some))
+    (λ k d lt. get_or_default a.written k d false lt ∙ marked_block a c k is lt ∙ sym (get_or-map is_some c.blocks k None d (omega arith)))
+
+pub blocks_are : (a : Inside) (c : Cell) → the_view a ≡ c → c.blocks ≡ kept_blocks c.block_len a.bytes.items (map is_some c.blocks)
+blocks_are a c is =
+    let len : c.block_len ≡ a.block_len = ap (λ (z : Cell). z.block_len) (sym is) in
+    rw (len, ← marks_are a c is) (ap (λ (z : Cell). z.blocks) (sym is))
+
+pub bytes_are : (g : GeometryFields) (a : Inside) (c : Cell) → the_view a ≡ c → IsSound a.block_len a.pointer (vec_len a.bytes) (length a.written) → IsOf g c → vec_len a.bytes ≡ g.capacity * block_len g
+bytes_are g a c is sound of = sound.whole ∙ rw (marks_of a c is, of.blocks, ap (λ (z : Cell). z.block_len) is, of.len) refl
+
+-- blocks without a hole among them stand in the bytes
+pub run_stands : (a : Inside) (c : Cell) (from count : ℕ) → the_view a ≡ c → from + count ≤ length a.written → holes a.written from (from + count) ≡ 0
+    → take (count * a.block_len) (drop (from * a.block_len) a.bytes.items) ≡ bytes_at c from count
+run_stands a c from count is within none =
+    let size : from + count - from ≡ count = omega arith in
+    rw (← is) (sym (whole_run a.block_len a.bytes.items a.written from count within (rw size at none)))

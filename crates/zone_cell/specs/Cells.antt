@@ -1,5 +1,5 @@
 -- A zone as its cell keeps it, and what each action makes of it.
-use Rattle.std.specs.Prelude.{◌≡◌, ℕ, ◌+◌, ◌-◌, ◌*◌, ◌/◌, ◌%◌, ◌<◌, ◌≤◌, Bool, IsTrue, true, false, not, ◌&&◌, ◌||◌, ◌==◌, nat_le, nat_lt, if◌then◌else◌, max, List, length, map, replicate, slice_index_or, Option, Some, None, Result, Ok, Err}
+use Rattle.std.specs.Prelude.{◌≡◌, ℕ, ◌+◌, ◌-◌, ◌*◌, ◌/◌, ◌%◌, ◌<◌, ◌≤◌, Bool, IsTrue, false, ◌&&◌, ◌||◌, ◌==◌, nat_le, nat_lt, if◌then◌else◌, max, List, length, map, replicate, slice_index_or, Option, Some, None, Result, Ok, Err}
 use Rattle.std.specs.List.{flat_map, range_with_len}
 use Rattle.zns_types.specs.declared.fields.GeometryFields.{GeometryFields}
 use Rattle.zns_types.specs.declared.state.State.{State}
@@ -134,7 +134,7 @@ pub record IsBlocks (len : ℕ) (payload : List ℕ) : Type 0 where
   pub whole : length payload / len * len ≡ length payload
 
 -- The pointer of a random write area stands on a granule. A zone has one only on a drive where zones may.
-pub record HasGranules (g : GeometryFields) (c : Cell) : Type 0 where
+pub record HasSoundWindow (g : GeometryFields) (c : Cell) : Type 0 where
   pub windows : IsTrue c.window → 1 ≤ g.windows
   pub whole : IsTrue c.window → c.pointer % g.granule ≡ 0
 

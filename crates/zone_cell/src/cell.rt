@@ -1,8 +1,9 @@
-ghost use Rattle.std.specs.Prelude.{◌≡◌, ℕ, ◌+◌, ◌*◌, ◌<◌, ◌≤◌, ◌^◌, ◌||◌, ◌==◌, IfOk, length, None, slice_index_or, option_copied, is_some, IfSome};
+ghost use Rattle.std.specs.Prelude.{◌≡◌, ℕ, ◌+◌, ◌*◌, ◌<◌, ◌≤◌, ◌^◌, ◌||◌, ◌==◌, IfOk, length, None, slice_index_or, option_copied, is_some, IfSome, map};
 ghost use Rattle.zns_types.specs.declared.fields.GeometryFields.{GeometryFields};
 ghost use Rattle.zns_types.specs.Geometry.{block_len};
 ghost use Rattle.zone_state.specs.Shown.{attribute_bits};
-ghost use Rattle.zone_cell.specs.Cells.{IsOf, IsBlocks, fresh, cleared, led, with_blocks, count_of};
+ghost use Rattle.zone_cell.specs.Cells.{IsOf, IsBlocks, fresh, cleared, led, with_blocks, count_of, bytes_at};
+ghost use Rattle.zone_cell.specs.Kept.{kept_blocks};
 
 use crate::states::{is_active, is_writable};
 use std::alloc::Global;
@@ -201,5 +202,38 @@ impl ZoneCell {
             return None;
         }
         Some(&self.bytes[self.place(block)..self.place(block + 1)])
+    }
+
+    /// The bytes of `count` blocks from an offset on, where all of them were written.
+    pub(crate) fn run(&self, from: u64, count: u32) -> Option<&[u8]>
+        requires { from < 2 ^ 32 }
+        ensures bytes { IfSome result (λ bytes. bytes.now ≡ bytes_at self.now from count) }
+        ensures len { IfSome result (λ bytes. length bytes.now ≡ count * self.now.block_len) }
+    {
+        let end = from + u64::from(count);
+        if end > u64::from(self.written.len()) {
+            return None;
+        }
+        let holes = self.written.holes(from as u32, end as u32);
+        if holes > 0 {
+            return None;
+        }
+        Some(&self.bytes[self.place(from)..self.place(end)])
+    }
+
+    /// All blocks one after another. What lies in a block that wasn't written means nothing.
+    pub fn bytes(&self, g: &Geometry) -> &[u8]
+        requires { IsOf g.now.fields self.now }
+        ensures len { length result.now ≡ g.now.fields.capacity * block_len g.now.fields }
+        ensures blocks { self.now.blocks ≡ kept_blocks self.now.block_len result.now (map is_some self.now.blocks) }
+    {
+        &self.bytes[..all_bytes(g)]
+    }
+
+    /// Which blocks were written since the last reset.
+    pub fn written(&self) -> &Written
+        ensures { result.now ≡ map is_some self.now.blocks }
+    {
+        &self.written
     }
 }

@@ -6,6 +6,8 @@ mod checks;
 mod reads;
 mod shown;
 mod states;
+#[cfg(test)]
+mod tests;
 mod turns;
 mod writes;
 

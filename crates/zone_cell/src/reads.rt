@@ -14,6 +14,10 @@ impl ZoneCell {
         requires room { length out.old ≡ count * self.now.block_len }
         ensures { out.new ≡ bytes_at self.now from count }
     {
+        if let Some(bytes) = self.run(from, count) {
+            out.copy_from_slice(bytes);
+            return;
+        }
         let len = self.block_len() as usize;
         for i in 0..count as usize {
             self.get_block(from + i as u64, &mut out[i * len..(i + 1) * len]);

@@ -2,7 +2,7 @@ ghost use Rattle.std.specs.Prelude.{◌≡◌, ◌+◌, ◌≤◌, ◌/◌, None
 ghost use Rattle.zns_types.specs.Rows.{first_holding};
 ghost use Rattle.zns_types.specs.States.{is_active};
 ghost use Rattle.zone_state.specs.ZoneRows.{write_rows, append_rows, flush_rows};
-ghost use Rattle.zone_cell.specs.Cells.{IsOf, IsBlocks, HasGranules, sight, count_of, pointer_after, written, flushed};
+ghost use Rattle.zone_cell.specs.Cells.{IsOf, IsBlocks, HasSoundWindow, sight, count_of, pointer_after, written, flushed};
 
 use crate::cell::ZoneCell;
 use crate::states::moved;
@@ -14,7 +14,7 @@ impl ZoneCell {
     // The pointer after a write of `count` blocks from the offset `from` on.
     fn pointer_after(&self, g: &Geometry, from: u64, count: u32) -> u64
         requires kept { IsOf g.now.fields self.now }
-        requires granules { HasGranules g.now.fields self.now }
+        requires window { HasSoundWindow g.now.fields self.now }
         requires admitted { first_holding (write_rows g.now.fields (sight self.now) from count) ≡ None }
         requires some { 1 ≤ count }
         ensures exact { result ≡ pointer_after g.now.fields self.now count (from + count) }
@@ -31,7 +31,7 @@ impl ZoneCell {
     /// Writes host data to the blocks from the offset `from` on.
     pub fn put(&mut self, g: &Geometry, from: u64, payload: &[u8])
         requires kept { IsOf g.now.fields self.old }
-        requires granules { HasGranules g.now.fields self.old }
+        requires window { HasSoundWindow g.now.fields self.old }
         requires blocks { IsBlocks self.old.block_len payload.now }
         requires admitted { first_holding (write_rows g.now.fields (sight self.old) from (count_of self.old payload.now)) ≡ None }
         ensures written { self.new ≡ written g.now.fields from payload.now self.old }

@@ -1,4 +1,5 @@
 use crate::{DescErr, Descriptor, read, write};
+use std::test::Fail;
 use zns_types::State;
 
 // The bytes of a descriptor whose first three are given, with capacity 48, first block 0 and its
@@ -70,4 +71,19 @@ fn other_bytes_are_refused(rt: HostRuntime) {
     for (kind, state, wanted) in rows {
         assert_eq!(rt; read(&bytes_of(kind, state, 0)), Err(wanted));
     }
+}
+
+#[test]
+fn the_errors_show_their_byte(rt: HostRuntime) -> Result<(), Fail> {
+    let kind = format!(in rt.alloc(); "{}", DescErr::TypeNot2(3))?;
+    assert_eq!(rt;
+        kind.as_str(),
+        "the zone is not written in sequence: byte 0 is 0x03"
+    );
+    let state = format!(in rt.alloc(); "{}", DescErr::StateUnknown(0x50))?;
+    assert_eq!(rt;
+        state.as_str(),
+        "the zone's state is unknown: byte 1 is 0x50"
+    );
+    Ok(())
 }

@@ -1,5 +1,5 @@
 -- The resources of zones, and which want of them refuses a command: Zoned Namespace Command Set Specification 1.1,
--- 2.1.1.2 (active and open resources), with random write areas by Technical Proposal 4076.
+-- 2.1.1 (active and open resources), with random write areas by Technical Proposal 4076.
 use Rattle.std.specs.Prelude.{ℕ, ◌+◌, ◌-◌, ◌<◌, ◌≤◌, Bool, not, ◌&&◌, ◌==◌, nat_le, if◌then◌else◌, List, [], ◌∷◌}
 use Rattle.zns_types.specs.declared.fields.GeometryFields.{GeometryFields}
 use Rattle.zns_types.specs.Statuses.{Status, too_many_active_zones, too_many_open_zones, zrwa_resources_unavailable}

@@ -10,6 +10,10 @@ use Rattle.zns_types.specs.Statuses.{Status}
 use Rattle.zone_model.specs.declared.act.Act.{Act}
 use Rattle.zone_model.specs.Places.{Place}
 use Rattle.zone_model.specs.Zones.{state}
+use Rattle.zone_model.specs.Answers.{and_then}
+use Rattle.zone_model.specs.Replies.{reply_bytes}
+use Rattle.zone_model.specs.Entries.{posted}
+use Rattle.cqe_codec.specs.declared.cqe.Cqe.{Cqe}
 
 abbrev pub drive : GeometryFields
 drive = record { block_exp = 9; mdts = 0; zasl = 0; flags = 0; zones = 4; zone_size = 64; capacity = 48; active_limit = 3; open_limit = 2; windows = 1; granule = 4; window = 8; queues = 2; depth = 64 }
@@ -57,3 +61,26 @@ statuses h = map (λ p. p.status) h
 
 abbrev pub states : List Place → List State
 states h = map (λ z. state drive h z) (range_with_len 0 4)
+
+-- the entries that acts post, one after the other
+abbrev pub posts : GeometryFields → List Place → List Act → List (List Cqe)
+posts g h [] = []
+posts g h (a ∷ acts) = posted g h a ∷ posts g (and_then g h a) acts
+
+-- the bytes that they read
+abbrev pub reads : GeometryFields → List Place → List Act → List (List ℕ)
+reads g h [] = []
+reads g h (a ∷ acts) = reply_bytes g h a ∷ reads g (and_then g h a) acts
+
+abbrev pub set_notices : ℕ → Act
+set_notices cid = act_on 0 0x09 cid 0x0b 0x08000000 0 0 []
+
+abbrev pub event_request : ℕ → Act
+event_request cid = act_on 0 0x0c cid 0 0 0 0 []
+
+abbrev pub excursion : ℕ → ℕ → ℕ → Act
+excursion cid slba kind = act_on 0 0xc0 cid slba 0 0 kind []
+
+-- reads 4,096 bytes of the changed zones and clears them
+abbrev pub read_changed : ℕ → Act
+read_changed cid = act_on 0 0x02 cid 0x03ff00bf 0 0 0 []

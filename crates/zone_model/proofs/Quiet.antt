@@ -64,7 +64,7 @@ bound_none act all here s n e = elim (cases_Bool (act == flush_code)) [
 ]
 
 -- a command that has no move of the zone
-leaves_alone : (g : GeometryFields) (h : List Place) (c : Cmd) (z : ℕ) → commanded g h c z ≡ None → LeavesAlone g c z
+pub leaves_alone : (g : GeometryFields) (h : List Place) (c : Cmd) (z : ℕ) → commanded g h c z ≡ None → LeavesAlone g c z
 leaves_alone g h (cmd.Write nsid slba blocks) z e = record { blocks = not_here (zone_of g slba == z) _ _ e; window = refl; bound = not_here (zone_of g slba == z) _ _ e; excursion = λ kind. refl }
 leaves_alone g h (cmd.Append nsid zslba blocks) z e = record { blocks = not_here (zone_of g zslba == z) _ _ e; window = refl; bound = refl; excursion = λ kind. refl }
 leaves_alone g h (cmd.Send nsid slba act all option) z e = record {

@@ -1,5 +1,5 @@
 -- Sums and counts over a range of numbers.
-use Rattle.std.proofs.Common.{◌≡◌, ◌≢◌, ℕ, zero, suc, ◌+◌, ◌<◌, ◌≤◌, Bool, false, cond, refl, sym, ap, ◌∙◌, arith, inl, inr}
+use Rattle.std.proofs.Common.{◌≡◌, ◌≢◌, ℕ, zero, suc, ◌+◌, ◌<◌, ◌≤◌, Bool, true, false, cond, refl, sym, ap, ◌∙◌, arith, inl, inr}
 use Rattle.std.specs.Prelude.{◌==◌, ◌⊎◌, count_by}
 use Rattle.std.specs.List.{sum_by, range_with_len}
 use Rattle.std.proofs.lemmas.List.Sums.{sum_by-cons, count_by-le-length}
@@ -110,3 +110,65 @@ count-change_two f g y z n apart y_lt z_lt e =
     off_z : (x : ℕ) → x ≢ z → (x ≡ y) ⊎ (x ≡ y → ⊥) → mixed f g y x ≡ g x
     off_z x other (inl here) = mixed-here f g y x here
     off_z x other (inr there) = mixed-other f g y x there ∙ e x there other
+
+-- ---- counts that change at one number, or at two
+
+equals-none : (z a n : ℕ) → z < a → sum_of (λ x. one (x == z)) a n ≡ 0
+equals-none z a zero past = refl
+equals-none z a (suc n) past =
+    let here : one (a == z) ≡ 0 = ap one (ne_eqb a z (λ e. absurd (omega arith))) in
+    omega (arith, sum_of-step (λ x. one (x == z)) a n, here, equals-none z (a + 1) n (omega arith))
+
+equals-one : (z a n : ℕ) → a ≤ z → z < a + n → sum_of (λ x. one (x == z)) a n ≡ 1
+equals-one z a zero low high = absurd (omega arith)
+equals-one z a (suc n) low high = elim (cases_eq a z) [
+  | inl here ↦
+      let at : one (a == z) ≡ 1 = ap one (eq-eqb a z here) in
+      omega (arith, sum_of-step (λ x. one (x == z)) a n, at, equals-none z (a + 1) n (omega arith))
+  | inr other ↦
+      let at : one (a == z) ≡ 0 = ap one (ne_eqb a z other) in
+      omega (arith, sum_of-step (λ x. one (x == z)) a n, at, equals-one z (a + 1) n (omega arith) (omega arith))
+]
+
+equals-le : (z a n : ℕ) → sum_of (λ x. one (x == z)) a n ≤ 1
+equals-le z a zero = omega arith
+equals-le z a (suc n) = elim (cases_eq a z) [
+  | inl here ↦
+      let at : one (a == z) ≡ 1 = ap one (eq-eqb a z here) in
+      omega (arith, sum_of-step (λ x. one (x == z)) a n, at, equals-none z (a + 1) n (omega arith))
+  | inr other ↦
+      let at : one (a == z) ≡ 0 = ap one (ne_eqb a z other) in
+      omega (arith, sum_of-step (λ x. one (x == z)) a n, at, equals-le z (a + 1) n)
+]
+
+pub one-le : (b : Bool) → one b ≤ 1
+one-le true = omega arith
+one-le false = omega arith
+
+-- where no number but one passes that didn't, one more passes at most
+pub count-le_but : (f g : ℕ → Bool) (z n : ℕ) → ((x : ℕ) → x ≢ z → one (f x) ≤ one (g x)) → count_below f n ≤ count_below g n + 1
+count-le_but f g z n e =
+    let le = sum_of-le (λ x. one (f x)) (λ x. one (g x) + one (x == z)) 0 n (λ x low high. by_case x (cases_eq x z)) in
+    omega (arith, le, sum_of-add (λ x. one (g x)) (λ x. one (x == z)) 0 n, equals-le z 0 n)
+  where
+    by_case : (x : ℕ) → (x ≡ z) ⊎ (x ≡ z → ⊥) → one (f x) ≤ one (g x) + one (x == z)
+    by_case x (inl here) = let at : one (x == z) ≡ 1 = ap one (eq-eqb x z here) in omega (arith, at, one-le (f x))
+    by_case x (inr other) = omega (arith, e x other)
+
+-- and where another number passed that doesn't, no more pass
+pub count-le_swap : (f g : ℕ → Bool) (y z n : ℕ) → y ≢ z → y < n → f y ≡ false → g y ≡ true → ((x : ℕ) → x ≢ z → one (f x) ≤ one (g x)) → count_below f n ≤ count_below g n
+count-le_swap f g y z n apart lt gone was e =
+    let le = sum_of-le (λ x. one (f x) + one (x == y)) (λ x. one (g x) + one (x == z)) 0 n (λ x low high. by_case x (cases_eq x y) (cases_eq x z)) in
+    omega (arith, le, sum_of-add (λ x. one (f x)) (λ x. one (x == y)) 0 n, sum_of-add (λ x. one (g x)) (λ x. one (x == z)) 0 n, equals-one y 0 n (omega arith) (omega arith), equals-le z 0 n)
+  where
+    by_case : (x : ℕ) → (x ≡ y) ⊎ (x ≡ y → ⊥) → (x ≡ z) ⊎ (x ≡ z → ⊥) → one (f x) + one (x == y) ≤ one (g x) + one (x == z)
+    by_case x (inl at_y) w =
+        let at : one (x == y) ≡ 1 = ap one (eq-eqb x y at_y) in
+        let none : one (f x) ≡ 0 = ap (λ (k : ℕ). one (f k)) at_y ∙ ap one gone in
+        let some : one (g x) ≡ 1 = ap (λ (k : ℕ). one (g k)) at_y ∙ ap one was in
+        omega arith
+    by_case x (inr off_y) (inl at_z) =
+        let away : one (x == y) ≡ 0 = ap one (ne_eqb x y off_y) in
+        let at : one (x == z) ≡ 1 = ap one (eq-eqb x z at_z) in
+        omega (arith, one-le (f x))
+    by_case x (inr off_y) (inr off_z) = let away : one (x == y) ≡ 0 = ap one (ne_eqb x y off_y) in omega (arith, e x off_z)

@@ -16,7 +16,7 @@ use Rattle.zone_model.specs.declared.act.Act.{Act}
 use Rattle.zone_model.specs.Places.{Place, command_of}
 use Rattle.zone_model.specs.Zones.{state, zone, zones, opened, counts}
 use Rattle.zone_model.specs.Notices.{pending, waiting, fires_by}
-use Rattle.zone_model.specs.Refusals.{Rows, only, flush_rows, write_rows, read_rows, append_rows, send_rows, receive_rows, log_rows, feature_rows, event_rows, excursion_rows, unknown_rows, action_of}
+use Rattle.zone_model.specs.Refusals.{Rows, only, flush_rows, write_rows, read_rows, append_rows, send_rows, receive_rows, identify_rows, log_rows, feature_rows, event_rows, excursion_rows, unknown_rows, action_of}
 
 -- ---- the status
 
@@ -30,7 +30,7 @@ rows_of g h (cmd.Read nsid slba blocks) = only (read_rows g (state g h) nsid slb
 rows_of g h (cmd.Append nsid zslba blocks) = append_rows g (counts g h) (zone g h (zone_of g zslba)) nsid zslba blocks
 rows_of g h (cmd.Send nsid slba act all option) = send_rows g (counts g h) (closed_zones g h) (zone g h (zone_of g slba)) nsid slba act all option
 rows_of g h (cmd.Receive nsid slba bytes act filter partial) = only (receive_rows g nsid slba bytes act filter)
-rows_of g h (cmd.Identify nsid cns csi) = only unknown_rows
+rows_of g h (cmd.Identify nsid cns csi) = only (identify_rows g nsid cns csi)
 rows_of g h (cmd.GetLog nsid page bytes offset retain) = only (log_rows g nsid page bytes offset)
 rows_of g h (cmd.SetFeature feature value) = only (feature_rows feature)
 rows_of g h (cmd.GetFeature feature) = only (feature_rows feature)

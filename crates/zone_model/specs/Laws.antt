@@ -1,8 +1,27 @@
 -- Laws of every history. Each is the contract of a function.
-use Rattle.std.specs.Prelude.{◌≡◌, ℕ, List}
+use Rattle.std.specs.Prelude.{◌≡◌, ◌≢◌, ℕ, ◌+◌, ◌<◌, Bool, true, false, ◌==◌, List, ◌∷◌, ◌++◌, Option, Some, None, is_ok}
+use Rattle.std.specs.List.{list_any}
 use Rattle.zns_types.specs.declared.fields.GeometryFields.{GeometryFields}
-use Rattle.zone_model.specs.Places.{Place}
-use Rattle.zone_model.specs.Zones.{state, window, pointer, block, attributes}
+use Rattle.zns_types.specs.Statuses.{Status, is_success}
+use Rattle.zns_types.specs.Rows.{Row}
+use Rattle.zns_types.specs.declared.state.State.{State}
+use Rattle.zns_types.specs.States.{is_offline}
+use Rattle.zns_types.specs.Geometry.{IsGeometry, offset_of}
+use Rattle.sqe_codec.specs.declared.cmd.Cmd.{Cmd}
+use Rattle.sqe_codec.specs.declared.cmd.Cmd.TheVariants as cmd
+use Rattle.zone_state.specs.declared.action.Action.{Action}
+use Rattle.zone_state.specs.declared.action.Action.TheVariants as action
+use Rattle.zone_state.specs.Transitions.{after, go}
+use Rattle.zone_limits.specs.Resources.{AreWithin}
+use Rattle.zrwa_commit.specs.Windows.{FewestGranules}
+use Rattle.zone_model.specs.declared.act.Act.{Act}
+use Rattle.zone_model.specs.Places.{Place, command_of, is_reset, is_finish}
+use Rattle.zone_model.specs.Zones.{state, window, pointer, block, seen, committed, attributes, active, opened, windows, counts}
+use Rattle.zone_model.specs.Notices.{changed, enabled, masked, pending, waiting}
+use Rattle.zone_model.specs.Answers.{status, rows_of, all_rows, evicted, is_zone, zone_move, and_then, answered}
+use Rattle.zone_model.specs.Reach.{reach}
+
+-- ---- refusals
 
 -- a zone is after the new places what it was after the old ones
 pub record IsUnchanged (g : GeometryFields) (old new : List Place) (z : ℕ) : Type 0 where
@@ -11,3 +30,113 @@ pub record IsUnchanged (g : GeometryFields) (old new : List Place) (z : ℕ) : T
   pub pointer : pointer g new z ≡ pointer g old z
   pub blocks : (b : ℕ) → block g new z b ≡ block g old z b
   pub attributes : attributes g new z ≡ attributes g old z
+
+-- and so is the drive
+pub record IsAsBefore (g : GeometryFields) (old new : List Place) : Type 0 where
+  pub zones : (z : ℕ) → IsUnchanged g old new z
+  pub active : active g new ≡ active g old
+  pub opened : opened g new ≡ opened g old
+  pub windows : windows g new ≡ windows g old
+  pub changed : changed g new ≡ changed g old
+  pub enabled : enabled new ≡ enabled old
+  pub masked : masked new ≡ masked old
+  pub pending : pending new ≡ pending old
+  pub waiting : waiting new ≡ waiting old
+
+-- A refused act changes nothing.
+abbrev pub RefusedChangesNothing : Type 0
+RefusedChangesNothing = (g : GeometryFields) (h : List Place) (a : Act) → is_success (status g h a) ≡ false → IsAsBefore g h (and_then g h a)
+
+-- a row with this code holds, and none before it does
+pub record FirstHolds (rows : List (Row Status)) (code : Status) : Type 0 where
+  pub earlier : List (Row Status)
+  pub row : Row Status
+  pub later : List (Row Status)
+  pub order : rows ≡ earlier ++ row ∷ later
+  pub none_earlier : list_any (λ r. r.holds) earlier ≡ false
+  pub holds : row.holds ≡ true
+  pub answers : row.answer ≡ code
+
+-- A refused act has the code of the first row of its command that holds.
+abbrev pub FirstRefusal : Type 0
+FirstRefusal = (g : GeometryFields) (h : List Place) (a : Act) → is_success (status g h a) ≡ false → FirstHolds (all_rows g h (rows_of g h (command_of a))) (status g h a)
+
+-- ---- zones out of reach
+
+abbrev pub is_reached : GeometryFields → Act → ℕ → Bool
+is_reached g a z = list_any (λ y. y == z) (reach g a)
+
+-- A zone that is out of an act's reach, and isn't closed for another, stays as it was.
+abbrev pub UntouchedStays : Type 0
+UntouchedStays = (g : GeometryFields) (h : List Place) (a : Act) (z : ℕ) → z < g.zones → is_reached g a z ≡ false → is_zone z (evicted g h a) ≡ false → IsUnchanged g h (and_then g h a) z
+
+-- ---- committed blocks
+
+-- the move leads to Offline
+abbrev pub goes_offline : State → Option Action → Bool
+goes_offline s None = false
+goes_offline s (Some a) = is_offline (after a s)
+
+-- a block is still committed, and reads the same
+pub record IsKeptBlock (g : GeometryFields) (old new : List Place) (z b : ℕ) : Type 0 where
+  pub committed : committed g new z b ≡ true
+  pub seen : seen g new z b ≡ seen g old z b
+
+abbrev pub KeepsCommitted : GeometryFields → List Place → Act → Type 0
+KeepsCommitted g h a = (z b : ℕ) → committed g h z b ≡ true → is_reset (zone_move g h a z) ≡ false → goes_offline (state g h z) (zone_move g h a z) ≡ false → IsKeptBlock g h (and_then g h a) z b
+
+-- Until the zone is reset or goes Offline, a committed block stays committed and reads the same.
+abbrev pub CommittedStays : Type 0
+CommittedStays = (g : GeometryFields) → IsGeometry g → (acts : List Act) (a : Act) → KeepsCommitted g (answered g acts) a
+
+-- ---- pointers
+
+-- the block up to which a flush commits, as an offset
+abbrev pub flush_last : GeometryFields → Cmd → ℕ
+flush_last g (cmd.Send nsid slba act all option) = offset_of g slba
+flush_last g _ = 0
+
+-- where a Write ends, as an offset
+abbrev pub write_end : GeometryFields → Cmd → ℕ
+write_end g (cmd.Write nsid slba blocks) = offset_of g slba + blocks
+write_end g _ = 0
+
+-- How an act moves the pointer of a zone with a random write area from p to q: a flush commits up to its last block;
+-- a Write that ends past the area moves it by the fewest granules that let it end inside, and not to the capacity; a
+-- reset leads to the start, and a finish, also by the controller, to the capacity.
+pub data HowMoved (g : GeometryFields) (h : List Place) (a : Act) (z p q : ℕ) : Type 0 where
+  flushed : zone_move g h a z ≡ Some action.Flush → q ≡ flush_last g (command_of a) + 1 → HowMoved g h a z p q
+  overrun : zone_move g h a z ≡ Some action.Write → p + g.window < write_end g (command_of a) → FewestGranules g p (write_end g (command_of a)) q → q < g.capacity → HowMoved g h a z p q
+  reset : is_reset (zone_move g h a z) ≡ true → q ≡ 0 → HowMoved g h a z p q
+  finished : is_finish (zone_move g h a z) ≡ true → q ≡ g.capacity → HowMoved g h a z p q
+
+abbrev pub MovesPointers : GeometryFields → List Place → Act → Type 0
+MovesPointers g h a = (z : ℕ) → window g h z ≡ true → pointer g (and_then g h a) z ≢ pointer g h z → HowMoved g h a z (pointer g h z) (pointer g (and_then g h a) z)
+
+-- Where a zone has a random write area, its pointer moves in no other way.
+abbrev pub PointerMoves : Type 0
+PointerMoves = (g : GeometryFields) → IsGeometry g → (acts : List Act) (a : Act) → MovesPointers g (answered g acts) a
+
+-- ---- transitions
+
+-- What an act does to a zone, also to one that it closes for another, is what the table of transitions allows there.
+abbrev pub MovesAreAllowed : Type 0
+MovesAreAllowed = (g : GeometryFields) (h : List Place) (a : Act) (z : ℕ) (m : Action) → zone_move g h a z ≡ Some m → is_ok (go m (state g h z)) ≡ true
+
+-- ---- limits
+
+-- After every history the active and opened zones and the random write areas are within their limits.
+abbrev pub WithinLimits : Type 0
+WithinLimits = (g : GeometryFields) → IsGeometry g → (acts : List Act) → AreWithin g (counts g (answered g acts))
+
+-- ---- all three
+
+-- At each place of a history, for each zone and block: the limits hold, pointers move as they may, and committed
+-- blocks stay.
+pub record IsKept (g : GeometryFields) (acts : List Act) : Type 0 where
+  pub limits : (before after : List Act) → acts ≡ before ++ after → AreWithin g (counts g (answered g before))
+  pub pointers : (before after : List Act) (a : Act) → acts ≡ before ++ a ∷ after → MovesPointers g (answered g before) a
+  pub blocks : (before after : List Act) (a : Act) → acts ≡ before ++ a ∷ after → KeepsCommitted g (answered g before) a
+
+abbrev pub HistoriesAreKept : Type 0
+HistoriesAreKept = (g : GeometryFields) → IsGeometry g → (acts : List Act) → IsKept g acts

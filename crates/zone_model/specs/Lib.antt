@@ -8,4 +8,5 @@ pub mod Reports
 pub mod Replies
 pub mod Entries
 pub mod Sessions
+pub mod Reach
 pub mod Laws

@@ -1,5 +1,5 @@
 -- The refusals of each command, as rows in their order: functions of plain data.
-use Rattle.std.specs.Prelude.{ℕ, ◌+◌, ◌*◌, ◌-◌, ◌^◌, ◌%◌, Bool, true, false, not, ◌&&◌, ◌||◌, ◌==◌, nat_lt, nat_le, if◌then◌else◌, List, [], ◌∷◌, ◌++◌, length, Option, Some, None, is_some}
+use Rattle.std.specs.Prelude.{ℕ, ◌+◌, ◌*◌, ◌-◌, ◌^◌, ◌%◌, Bool, true, false, not, ◌&&◌, ◌||◌, ◌==◌, nat_lt, nat_le, if◌then◌else◌, List, [], ◌∷◌, ◌++◌, length, Option, Some, None, is_some, is_none}
 use Rattle.std.specs.List.{list_any, range_with_len}
 use Rattle.zns_types.specs.declared.fields.GeometryFields.{GeometryFields}
 use Rattle.zns_types.specs.declared.state.State.{State}
@@ -13,6 +13,7 @@ use Rattle.zone_state.specs.ZoneRows as zone
 use Rattle.zone_state.specs.ZoneRows.{Zone, no_transition}
 use Rattle.zone_limits.specs.declared.limits.Limits.{Limits}
 use Rattle.zone_limits.specs.Resources.{at_limit}
+use Rattle.identify_zns.specs.Pages.{page_of}
 use Rattle.zone_model.specs.Places.{open_code, flush_code}
 
 -- The rows of a command: those before the row of too many open zones, the zone that needs an open resource, whether
@@ -190,6 +191,13 @@ log_rows g nsid page bytes offset =
     ∷ other_namespace nsid
     ∷ too_long g bytes
     ∷ when (not (offset == 0)) invalid_field
+    ∷ []
+
+-- Identify, by the pages that there are; two of them are of the namespace
+abbrev pub identify_rows : GeometryFields → ℕ → ℕ → ℕ → List (Row Status)
+identify_rows g nsid cns csi =
+    when (is_none (page_of cns csi g)) invalid_field
+    ∷ when (((cns == 0x00) || (cns == 0x05)) && not (nsid == 1)) invalid_namespace
     ∷ []
 
 -- the asynchronous event configuration

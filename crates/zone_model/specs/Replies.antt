@@ -1,11 +1,12 @@
 -- The bytes that an act reads.
-use Rattle.std.specs.Prelude.{ℕ, if◌then◌else◌, List, [], map, drop}
+use Rattle.std.specs.Prelude.{ℕ, if◌then◌else◌, List, [], map, unwrap_or, drop}
 use Rattle.std.specs.List.{flat_map, range_with_len}
 use Rattle.zns_types.specs.declared.fields.GeometryFields.{GeometryFields}
 use Rattle.zns_types.specs.Geometry.{zone_of, offset_of}
 use Rattle.zns_types.specs.Statuses.{is_success}
 use Rattle.sqe_codec.specs.declared.cmd.Cmd.{Cmd}
 use Rattle.sqe_codec.specs.declared.cmd.Cmd.TheVariants as cmd
+use Rattle.identify_zns.specs.Pages.{page_of}
 use Rattle.zone_descriptor.specs.declared.descriptor.Descriptor.{Descriptor}
 use Rattle.zone_model.specs.declared.act.Act.{Act}
 use Rattle.zone_model.specs.Places.{Place, command_of}
@@ -25,6 +26,7 @@ blocks_read g h slba blocks = flat_map (λ lba. seen g h (zone_of g lba) (offset
 abbrev pub read_by : GeometryFields → List Place → Cmd → List ℕ
 read_by g h (cmd.Read nsid slba blocks) = blocks_read g h slba blocks
 read_by g h (cmd.Receive nsid slba bytes act filter partial) = report bytes filter partial (drop (zone_of g slba) (descriptors g h))
+read_by g h (cmd.Identify nsid cns csi) = unwrap_or (page_of cns csi g) []
 read_by g h (cmd.GetLog nsid page bytes offset retain) = first_bytes bytes (changed_page g (changed g h))
 read_by g h _ = []
 

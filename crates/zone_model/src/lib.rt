@@ -4,6 +4,7 @@
 mod act;
 mod acts;
 mod journal;
+pub mod laws;
 mod replies;
 mod reply;
 
@@ -12,3 +13,6 @@ pub use acts::Acts;
 pub use journal::Journal;
 pub use replies::Replies;
 pub use reply::Reply;
+
+#[cfg(test)]
+mod tests;

@@ -1,5 +1,5 @@
 -- Masks, and the bits that they set in words.
-use Rattle.std.proofs.Common.{◌≡◌, ◌≢◌, ℕ, ◌+◌, ◌*◌, ◌-◌, ◌/◌, ◌%◌, ◌^◌, ◌<◌, ◌≤◌, max, min, Bool, true, false, ◌||◌, eqb, List, length, get_or, slice_index, slice_set, refl, sym, ap, ◌∙◌, inl, inr, arith}
+use Rattle.std.proofs.Common.{◌≡◌, ℕ, ◌+◌, ◌*◌, ◌-◌, ◌/◌, ◌%◌, ◌^◌, ◌<◌, ◌≤◌, max, min, Bool, false, ◌||◌, eqb, List, length, slice_index, slice_set, refl, ap, ◌∙◌, inl, inr, arith}
 use Rattle.std.specs.Int.RustNames.{bit_or}
 use Rattle.std.specs.Int.{bit_at}
 use Rattle.std.proofs.Math.Nat.{mul-sub, mul_comm, mul-one, mod-eq_of_lt, pow-le-pow_right}

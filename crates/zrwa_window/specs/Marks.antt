@@ -1,5 +1,5 @@
 -- Marks of blocks: a list of truth values, and the bits of words of 64 that hold it, the lowest bit first.
-use Rattle.std.specs.Prelude.{ℕ, ◌+◌, ◌-◌, ◌*◌, ◌/◌, ◌%◌, ◌^◌, Bool, true, not, ◌&&◌, ◌==◌, nat_le, nat_lt, List, ◌++◌, map, take, drop, replicate, count_by, slice_index, slice_range}
+use Rattle.std.specs.Prelude.{ℕ, ◌+◌, ◌/◌, ◌%◌, Bool, true, not, ◌&&◌, ◌==◌, nat_le, nat_lt, List, ◌++◌, map, take, drop, replicate, count_by, slice_index, slice_range}
 use Rattle.std.specs.Int.{bit_at}
 use Rattle.std.specs.List.{range_with_len}
 

@@ -1,6 +1,4 @@
-use Rattle.std.proofs.Common.{◌-◌, ◌≡◌, ◌≤◌, count_by}
-use Rattle.std.specs.List.{range_with_len}
-use Rattle.zrwa_window.specs.Marks.{is_set}
+use Rattle.std.proofs.Common.{◌-◌}
 use Rattle.zrwa_window.proofs.Loops.{CountsTo}
 use Rattle.zrwa_window.proofs.bits.count_bits.Given as goal
 

@@ -1,5 +1,5 @@
-use Rattle.std.proofs.Common.{◌≡◌, ◌∙◌, refl, length}
-use Rattle.std.specs.Prelude.{replicate, false}
+use Rattle.std.proofs.Common.{◌∙◌, refl}
+use Rattle.std.specs.Prelude.{false}
 use Rattle.std.proofs.lemmas.List.{length-replicate}
 use Rattle.zone_cell.proofs.Blocks.{length-kept, kept-none}
 use Rattle.zone_cell.proofs.cell.ZoneCell.new.Goals as goal

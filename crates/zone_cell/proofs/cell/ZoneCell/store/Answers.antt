@@ -1,4 +1,4 @@
-use Rattle.std.proofs.Common.{◌≡◌, ◌+◌, ◌≤◌, ◌-◌, ◌*◌, ◌/◌, length, refl, sym, ap, ◌∙◌, arith, vec_len}
+use Rattle.std.proofs.Common.{◌≡◌, ◌+◌, ◌≤◌, ◌-◌, ◌/◌, length, sym, ap, arith}
 use Rattle.zone_cell.specs.Cells.{Cell}
 use Rattle.zone_cell.proofs.Views.{end_within, marks_of, stored}
 use Rattle.zone_cell.proofs.cell.ZoneCell.store.Goals as goal

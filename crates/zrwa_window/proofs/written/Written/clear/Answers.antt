@@ -1,4 +1,4 @@
-use Rattle.std.proofs.Common.{◌≡◌, ℕ, ◌<◌, sym, ap, ◌∙◌, length, slice_index, false, inl, inr, arith}
+use Rattle.std.proofs.Common.{◌≡◌, ℕ, sym, ap, ◌∙◌, length, slice_index, false, inl, inr, arith}
 use Rattle.std.specs.Prelude.{replicate}
 use Rattle.std.proofs.lemmas.List.{with_items_is, get_or_past}
 use Rattle.std.proofs.lemmas.Bool.{cases_lt}

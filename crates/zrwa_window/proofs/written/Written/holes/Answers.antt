@@ -1,5 +1,4 @@
-use Rattle.std.proofs.Common.{◌≡◌, ◌+◌, ◌-◌, sym, ap, ◌∙◌, length, arith}
-use Rattle.zrwa_window.specs.Marks.{holes}
+use Rattle.std.proofs.Common.{◌≡◌, sym, ap, ◌∙◌, length, arith}
 use Rattle.zrwa_window.proofs.MarkLists.{length-marks_of, holes-rest}
 use Rattle.zrwa_window.proofs.written.Written.holes.Goals as goal
 

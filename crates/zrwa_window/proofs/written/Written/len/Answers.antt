@@ -1,4 +1,4 @@
-use Rattle.std.proofs.Common.{sym, ap, ◌∙◌, length}
+use Rattle.std.proofs.Common.{sym}
 use Rattle.zrwa_window.proofs.MarkLists.{length-marks_of}
 use Rattle.zrwa_window.proofs.written.Written.len.Goals as goal
 

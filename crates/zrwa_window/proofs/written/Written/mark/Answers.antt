@@ -1,6 +1,6 @@
-use Rattle.std.proofs.Common.{◌≡◌, ◌+◌, sym, ap, ◌∙◌, ◌||◌, length, Bool, List, arith}
+use Rattle.std.proofs.Common.{◌≡◌, sym, ap, ◌∙◌, length, Bool, List, arith}
 use Rattle.std.proofs.lemmas.List.{with_items_is}
-use Rattle.zrwa_window.specs.Marks.{marked, marks_of, is_set, lies_within}
+use Rattle.zrwa_window.specs.Marks.{marked, marks_of}
 use Rattle.zrwa_window.proofs.MarkLists.{length-marks_of, marks_of-marked}
 use Rattle.zrwa_window.proofs.written.Written.mark.Goals as goal
 

@@ -1,0 +1,38 @@
+-- What each end of a run says.
+use Rattle.std.proofs.Common.{◌≡◌, ℕ, List, Option, Some, None, refl, sym, ap, ◌∙◌, inl, inr}
+use Rattle.zns_runner.specs.declared.status.Status.{Status}
+use Rattle.zns_runner.specs.declared.status.Status.TheVariants as status
+use Rattle.zns_io.specs.declared.bytes.Bytes.{Bytes}
+use Rattle.std.specs.Prelude.{Ok, Err}
+use Rattle.zns_runner.specs.Sessions.{one_word}
+use Rattle.zns_runner.specs.Outcomes.{Streams, Means, IsComplete, IsNoSession}
+use Rattle.zns_runner.specs.Making.{MakesOutput, IsOutput}
+
+-- a run that made no output
+pub ended : (before now : Streams) (s : Status) → now.taken ≡ before.taken → MakesOutput before.left now.left before.source_faults now.source_faults (Err s) → Means before now s
+ended before now status.Ok same e = absurd e
+ended before now status.NoMemory same e = same
+ended before now status.Usage same e = absurd e
+ended before now status.ReadFault same e = (same, e)
+ended before now status.WriteFault same e = absurd e
+ended before now (status.BadFile what offset) same e = (same, e.reason, e.offset_is, e.none)
+
+pub not_usage : (before now : Streams) (s : Status) → MakesOutput before.left now.left before.source_faults now.source_faults (Err s) → s ≡ status.Usage → ⊥
+not_usage before now status.Ok e is = e
+not_usage before now status.NoMemory e is = absurd cc
+not_usage before now status.Usage e is = e
+not_usage before now status.ReadFault e is = absurd cc
+not_usage before now status.WriteFault e is = absurd cc
+not_usage before now (status.BadFile what offset) e is = absurd cc
+
+-- what a status means, and that it isn't Usage where `one` is asked for, leave Ok and want of memory for a session that
+-- is served
+pub completes : (words : List (List ℕ)) (before now : Streams) (s : Status) → (s ≡ status.Usage → words ≡ one_word → ⊥) → Means before now s → IsComplete words before now s
+completes words before now status.Ok usage means one session built told calm_source calm_sink = inl refl
+completes words before now status.NoMemory usage means one session built told calm_source calm_sink = inr refl
+completes words before now status.Usage usage means one session built told calm_source calm_sink = absurd (usage refl one)
+completes words before now status.ReadFault usage means one session built told calm_source calm_sink = absurd (calm_source means.1)
+completes words before now status.WriteFault usage means one session built told calm_source calm_sink = absurd (calm_sink means.fault)
+completes words before now (status.BadFile what offset) usage means one session built told calm_source calm_sink =
+    let none = rw told at means.3 in
+    absurd (none session built refl)

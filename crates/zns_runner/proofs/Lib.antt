@@ -1,0 +1,5 @@
+pub mod Orders
+pub mod ServedReplies
+pub mod Sizes
+pub mod Ends
+pub mod Results

@@ -1,0 +1,20 @@
+use Rattle.std.proofs.Common.{◌≡◌, ◌+◌, ◌*◌, ◌-◌, ap, sym, ◌∙◌, arith}
+use Rattle.std.proofs.Math.Nat.{add-mul}
+use Rattle.zone_cell.specs.Cells.{Cell}
+use Rattle.zone_cell.proofs.Views.{marks_of, run_stands}
+use Rattle.zone_cell.proofs.cell.ZoneCell.run.Goals as goal
+
+pub place-requires : goal.place-requires
+place-requires c = omega (arith, marks_of c.self.inside c.args.self.now c.self.view_is)
+
+pub place-requires-2 : goal.place-requires-2
+place-requires-2 c = omega (arith, marks_of c.self.inside c.args.self.now c.self.view_is)
+
+pub returns-clause-bytes : goal.returns-clause-bytes
+returns-clause-bytes c =
+    let len : c.args.self.now.block_len ≡ c.self.inside.block_len = ap (λ (z : Cell). z.block_len) (sym c.self.view_is) in
+    let at : c.place.result ≡ c.args.from * c.self.inside.block_len = rw len at c.place.ensures.exact in
+    let end : c.place-2.result ≡ (c.args.from + c.from.result) * c.self.inside.block_len = rw len at c.place-2.ensures.exact in
+    let size : c.place-2.result - c.place.result ≡ c.from.result * c.self.inside.block_len = omega (arith, add-mul c.args.from c.from.result c.self.inside.block_len) in
+    let none : c.holes-holes.result ≡ 0 = omega arith in
+    rw (size, at, c.deref.ensures.value, ← c.from.ensures) (run_stands c.self.inside c.args.self.now c.args.from c.from.result c.self.view_is (omega arith) (sym c.holes-holes.ensures ∙ none))

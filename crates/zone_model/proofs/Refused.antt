@@ -1,0 +1,89 @@
+-- After a refused act the drive is as it was.
+use Rattle.std.proofs.Common.{◌≡◌, ℕ, Bool, false, List, ◌∷◌, None, refl, ap, ◌∙◌, arith}
+use Rattle.std.specs.Prelude.{◌&&◌, not, drop}
+use Rattle.std.specs.List.{list_any}
+use Rattle.std.proofs.lemmas.List.Elements.{filter_agree}
+use Rattle.zns_types.specs.declared.fields.GeometryFields.{GeometryFields}
+use Rattle.zns_types.specs.Statuses.{is_success}
+use Rattle.sqe_codec.specs.declared.cmd.Cmd.{Cmd}
+use Rattle.sqe_codec.specs.declared.cmd.Cmd.TheVariants as cmd
+use Rattle.zone_model.specs.declared.act.Act.{Act}
+use Rattle.zone_model.specs.Places.{Place, took, command_of, changed_zone, had_excursion, cleared, waited, since_cleared}
+use Rattle.zone_model.specs.Zones.{zones}
+use Rattle.zone_model.specs.Notices.{changed, enabled, enabled_by, masked, noticed, pending, requests, answered_requests, waiting}
+use Rattle.zone_model.specs.Answers.{status, fires, answer, and_then}
+use Rattle.zone_model.specs.Laws.{IsAsBefore}
+use Rattle.zone_model.proofs.Unmoved.{refused_unchanged}
+use Rattle.zone_model.proofs.Counts.{active-same, opened-same, windows-same}
+
+-- a place that took nothing and answered no event request
+pub record IsIdle (p : Place) : Type 0 where
+  pub refused : took p ≡ false
+  pub fired : p.fired ≡ None
+
+idle_after : (g : GeometryFields) (h : List Place) (a : Act) → is_success (status g h a) ≡ false → IsIdle (answer g h a)
+unfolding answer fires
+idle_after g h a refused = record { refused = refused; fired = rw refused refl }
+
+idle-cleared : (p : Place) → IsIdle p → cleared p ≡ false
+unfolding cleared
+idle-cleared p i = rw i.refused refl
+
+idle-excursion : (p : Place) → IsIdle p → had_excursion p ≡ false
+unfolding had_excursion
+idle-excursion p i = rw i.refused refl
+
+idle-waited : (p : Place) → IsIdle p → waited p ≡ false
+unfolding waited
+idle-waited p i = rw i.refused refl
+
+idle-changed_zone : (g : GeometryFields) (p : Place) (z : ℕ) → IsIdle p → changed_zone g z p ≡ false
+unfolding changed_zone
+idle-changed_zone g p z i = rw i.refused refl
+
+changed-kept : (g : GeometryFields) (p : Place) (h : List Place) → IsIdle p → changed g (p ∷ h) ≡ changed g h
+unfolding changed
+changed-kept g p h i =
+    filter_agree (λ z. list_any (changed_zone g z) (since_cleared (p ∷ h))) (λ z. list_any (changed_zone g z) (since_cleared h)) (λ z. rw (idle-cleared p i, idle-changed_zone g p z i) refl) (zones g)
+
+enabled_by-refused : (c : Cmd) (before : Bool) → enabled_by false c before ≡ before
+enabled_by-refused (cmd.SetFeature feature value) before = refl
+enabled_by-refused _ before = refl
+
+enabled-kept : (p : Place) (h : List Place) → IsIdle p → enabled (p ∷ h) ≡ enabled h
+unfolding enabled
+enabled-kept p h i = rw i.refused (enabled_by-refused (command_of p.act) (enabled h))
+
+masked-kept : (p : Place) (h : List Place) → IsIdle p → masked (p ∷ h) ≡ masked h
+unfolding masked
+masked-kept p h i = rw (idle-cleared p i, i.fired) refl
+
+noticed-kept : (p : Place) (h : List Place) → IsIdle p → noticed (p ∷ h) ≡ noticed h
+noticed-kept p h i = rw (idle-cleared p i, idle-excursion p i) refl
+
+pending-kept : (p : Place) (h : List Place) → IsIdle p → pending (p ∷ h) ≡ pending h
+unfolding pending
+pending-kept p h i = ap (λ (b : Bool). not b && noticed (p ∷ h)) (masked-kept p h i) ∙ ap (λ (b : Bool). not (masked h) && b) (noticed-kept p h i)
+
+waiting-kept : (p : Place) (h : List Place) → IsIdle p → waiting (p ∷ h) ≡ waiting h
+unfolding waiting
+waiting-kept p h i =
+    let none : answered_requests (p ∷ h) ≡ answered_requests h = rw (idle-excursion p i) (omega arith) in
+    let same : requests (p ∷ h) ≡ requests h = rw (idle-waited p i) refl in
+    ap (λ (n : ℕ). drop n (requests (p ∷ h))) none ∙ ap (λ (xs : List ℕ). drop (answered_requests h) xs) same
+
+pub refused_as_before : (g : GeometryFields) (h : List Place) (a : Act) → is_success (status g h a) ≡ false → IsAsBefore g h (and_then g h a)
+refused_as_before g h a refused =
+    let i = idle_after g h a refused in
+    let same = refused_unchanged g h a refused in
+    record {
+      zones = same;
+      active = active-same g h (and_then g h a) (λ x. (same x).state);
+      opened = opened-same g h (and_then g h a) (λ x. (same x).state);
+      windows = windows-same g h (and_then g h a) (λ x. (same x).window);
+      changed = changed-kept g (answer g h a) h i;
+      enabled = enabled-kept (answer g h a) h i;
+      masked = masked-kept (answer g h a) h i;
+      pending = pending-kept (answer g h a) h i;
+      waiting = waiting-kept (answer g h a) h i;
+    }

@@ -1,0 +1,5 @@
+use Rattle.zone_model.proofs.PointersMove.{pointer_moves}
+use Rattle.zone_model.proofs.laws.pointer_moves.Goals as goal
+
+pub returns : goal.returns
+returns c = pointer_moves

@@ -1,0 +1,5 @@
+use Rattle.zone_model.proofs.Reached.{untouched_unchanged}
+use Rattle.zone_model.proofs.laws.untouched_stays.Goals as goal
+
+pub returns : goal.returns
+returns c = untouched_unchanged
