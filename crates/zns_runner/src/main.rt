@@ -10,11 +10,10 @@ mod word;
 use crate::status::Status;
 use crate::top::top_plain;
 use crate::word::Word;
+use std::env::Env;
 use std::io::Write;
 use std::process::ExitCode;
-use std::env;
-use std::env::Env;
-use std::io;
+use std::{env, io};
 use zns_io::{NoMemory, StdSink, StdSource};
 
 // The words behind the program's name. Words that aren't text are none that mean anything.
