@@ -18,12 +18,10 @@ served_refused g old nsid slba blocks payload cell d s lt front kept zone = reco
   front = λ other e. absurd (cc (front, e));
   zone = λ other any _ e.
       let same = get_or_default old (zone_of g slba) any d lt in
-      let e' = rw same at e in
-      (cc (zone, e'), rw kept (set-get_or old (zone_of g slba) d));
+      (cc zone, rw kept (set-get_or old (zone_of g slba) d));
   done = λ any _ e.
       let same = get_or_default old (zone_of g slba) any d lt in
-      let e' = rw same at e in
-      absurd (cc (zone, e'));
+      absurd (cc zone);
 }
 
 pub served_done : (g : GeometryFields) (old : List Cell) (nsid slba blocks : ℕ) (payload : List ℕ) (cell d : Cell)
@@ -35,7 +33,6 @@ served_done g old nsid slba blocks payload cell d lt front zone is = record {
   front = λ other e. absurd (cc (front, e));
   zone = λ other any _ e.
       let same = get_or_default old (zone_of g slba) any d lt in
-      let e' = rw same at e in
-      absurd (cc (zone, e'));
+      absurd (cc zone);
   done = λ any _ e. (refl, ap (set old (zone_of g slba)) (is ∙ ap (written g (offset_of g slba) payload) (get_or_default old (zone_of g slba) d any lt)));
 }

@@ -7,6 +7,8 @@ mod reads;
 mod serving;
 mod solo;
 mod tally;
+#[cfg(test)]
+mod tests;
 mod writes;
 
 pub use posted::Posted;

@@ -1,11 +1,15 @@
 -- What each end of a run says.
-use Rattle.std.proofs.Common.{◌≡◌, ℕ, List, Option, Some, None, refl, sym, ap, ◌∙◌, inl, inr}
+use Rattle.std.proofs.Common.{◌≡◌, ℕ, List, refl, sym, subst, inl, inr}
+use Rattle.zns_io.specs.Told.{Gains}
+use Rattle.zone_model.specs.declared.act.Act.{Act}
+use Rattle.zone_model.specs.Laws.{IsKept}
+use Rattle.zone_model.proofs.KeptHistories.{histories_are_kept}
+use Rattle.zns_runner.proofs.Orders.{merged-own_order}
 use Rattle.zns_runner.specs.declared.status.Status.{Status}
 use Rattle.zns_runner.specs.declared.status.Status.TheVariants as status
-use Rattle.zns_io.specs.declared.bytes.Bytes.{Bytes}
-use Rattle.std.specs.Prelude.{Ok, Err}
+use Rattle.std.specs.Prelude.{Err}
 use Rattle.zns_runner.specs.Sessions.{one_word}
-use Rattle.zns_runner.specs.Outcomes.{Streams, Means, IsComplete, IsNoSession}
+use Rattle.zns_runner.specs.Outcomes.{Streams, Serves, Means, IsComplete}
 use Rattle.zns_runner.specs.Making.{MakesOutput, IsOutput}
 
 -- a run that made no output
@@ -36,3 +40,16 @@ completes words before now status.WriteFault usage means one session built told 
 completes words before now (status.BadFile what offset) usage means one session built told calm_source calm_sink =
     let none = rw told at means.3 in
     absurd (none session built refl)
+
+-- a run that wrote its output
+pub served : (before now : Streams) (bytes : List ℕ) → IsOutput before.left now.left bytes → Gains before.taken now.taken bytes → Serves before now
+served before now bytes is gained =
+    let s = is.session in
+    let P : List Act → Type 0 = λ acts. IsKept s.geometry acts in
+    record {
+      session = s;
+      built = is.built;
+      read = is.read;
+      written = rw is.result at gained;
+      kept = subst P (sym (merged-own_order s.acts)) (histories_are_kept s.geometry is.built.session.geometry s.acts);
+    }

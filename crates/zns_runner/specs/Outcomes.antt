@@ -1,6 +1,7 @@
 -- What each status of the program means.
 use Rattle.std.specs.Prelude.{◌≡◌, ℕ, List, Option, Some, None, ⊤, ◌⊎◌}
-use Rattle.zone_model.specs.Sessions.{Recorded, spelling, spells}
+use Rattle.zone_model.specs.Sessions.{Recorded, spelling, spells, merge, own_order}
+use Rattle.zone_model.specs.Laws.{IsKept}
 use Rattle.zns_io.specs.Faults.{Rose}
 use Rattle.zns_io.specs.Told.{Gains}
 use Rattle.zns_io.specs.Reading.{ReadsAll}
@@ -18,12 +19,14 @@ pub record Streams : Type 0 where
   pub source_faults : ℕ
   pub sink_faults : ℕ
 
--- a session was read whole, and its result was written whole
+-- a session was read whole, and its result was written whole; in the order that the result names, the limits hold,
+-- pointers move as they may, and committed blocks stay
 pub record Serves (before now : Streams) : Type 0 where
   pub session : Recorded
   pub built : IsBuilt session
   pub read : ReadsAll before.left now.left (spelling session)
   pub written : Gains before.taken now.taken (output session)
+  pub kept : IsKept session.geometry (merge session (own_order session.acts))
 
 -- a session was read whole, its result was not written whole, and a write failed
 pub record StopsWriting (before now : Streams) : Type 0 where

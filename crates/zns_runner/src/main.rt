@@ -4,6 +4,8 @@
 mod built;
 mod serving;
 mod status;
+#[cfg(test)]
+mod tests;
 mod top;
 mod word;
 

@@ -1,9 +1,9 @@
 -- The refusals that a zone alone decides.
-use Rattle.std.specs.Prelude.{ℕ, ◌+◌, ◌*◌, ◌-◌, ◌%◌, Bool, not, ◌&&◌, ◌||◌, ◌==◌, nat_lt, nat_le, if◌then◌else◌, List, [], ◌∷◌, is_ok}
+use Rattle.std.specs.Prelude.{ℕ, ◌+◌, ◌%◌, Bool, not, ◌&&◌, ◌==◌, nat_lt, if◌then◌else◌, List, [], ◌∷◌, is_ok}
 use Rattle.zns_types.specs.declared.fields.GeometryFields.{GeometryFields}
 use Rattle.zns_types.specs.declared.state.State.{State}
 use Rattle.zns_types.specs.States.{is_full, is_read_only, is_offline}
-use Rattle.zns_types.specs.Statuses.{Status, invalid_field, invalid_zone_operation, zone_boundary_error, zone_full, zone_read_only, zone_offline, zone_invalid_write, invalid_zone_state_transition}
+use Rattle.zns_types.specs.Statuses.{Status, invalid_zone_operation, zone_boundary_error, zone_full, zone_read_only, zone_offline, zone_invalid_write, invalid_zone_state_transition}
 use Rattle.zns_types.specs.Rows.{Row, when}
 use Rattle.zrwa_commit.specs.Windows.{is_admitted}
 use Rattle.zrwa_commit.specs.Windows as area

@@ -2,6 +2,8 @@
 #![tactic(auto)]
 
 mod action;
+#[cfg(test)]
+mod tests;
 mod transition;
 
 pub use action::Action;

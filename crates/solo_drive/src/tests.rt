@@ -1,0 +1,235 @@
+ghost use Rattle.std.specs.Prelude.{◌≡◌, ◌==◌, true, IsTrue};
+ghost use Rattle.sqe_codec.specs.Commands.{command};
+ghost use Rattle.sqe_codec.specs.Ranges.{IsWritable};
+ghost use Rattle.solo_drive.specs.Standing.{is_served, IsUnlimited};
+
+use super::*;
+use byteorder::{ByteOrder, LittleEndian};
+use cqe_codec::Cqe;
+use sqe_codec::{Cmd, Sqe, read, reply_len, transfer_len, write};
+use std::alloc::Global;
+use std::test::Fail;
+use zns_io::Bytes;
+use zns_types::{Code, Geometry, GeometryFields};
+
+// Zones of 48 blocks of 512 bytes, with no limits.
+const PLAIN: GeometryFields = GeometryFields {
+    block_exp: 9,
+    mdts: 0,
+    zasl: 0,
+    flags: 0,
+    zones: 4,
+    zone_size: 64,
+    capacity: 48,
+    active_limit: 0,
+    open_limit: 0,
+    windows: 0,
+    granule: 0,
+    window: 0,
+    queues: 3,
+    depth: 64,
+};
+
+// The answer to a command: its entry, how many bytes it read, and the room for them, which held EEh.
+#[derive(Drop)]
+struct Answer {
+    entry: Cqe,
+    len: u32,
+    out: Vec<u8>,
+}
+
+// A queue and a command, the byte of the data that it writes or reads, and its status, head and
+// phase.
+type Row = (u16, Cmd, u8, Code, u16, bool);
+
+const DONE: Code = Code::SUCCESS;
+
+fn put(slba: u64, blocks: u32) -> Cmd {
+    Cmd::Write {
+        nsid: 1,
+        slba,
+        blocks,
+    }
+}
+
+fn get(slba: u64, blocks: u32) -> Cmd {
+    Cmd::Read {
+        nsid: 1,
+        slba,
+        blocks,
+    }
+}
+
+fn is_writable(cmd: Cmd) -> bool
+    ensures { IsTrue result → IsWritable cmd }
+{
+    match cmd {
+        Cmd::Write { blocks, .. } | Cmd::Read { blocks, .. } => 1 <= blocks && blocks <= 65_536,
+        Cmd::Unknown { opcode } => opcode == 0x55,
+        _ => false,
+    }
+}
+
+fn is_served(sqe: &Sqe, queue: u16) -> bool
+    ensures { IsTrue result → is_served (command (queue == 0) sqe.now.bytes) ≡ true }
+{
+    matches!(
+        read(sqe, queue == 0),
+        Cmd::Write { .. } | Cmd::Read { .. } | Cmd::Unknown { .. }
+    )
+}
+
+// Serves a command whose host data are of one byte.
+fn serve(
+    alloc: Global,
+    drive: &mut Solo,
+    queue: u16,
+    cmd: Cmd,
+    byte: u8,
+) -> Result<Option<Answer>, Fail> {
+    if !is_writable(cmd) {
+        return Ok(None);
+    }
+    let sqe = write(&cmd, 7);
+    let g = drive.geometry();
+    if !is_served(&sqe, queue) || queue >= g.fields().queues || drive.spare() == 0 {
+        return Ok(None);
+    }
+    let payload = Bytes::filled(alloc, transfer_len(g, queue == 0, &sqe), byte)?;
+    let mut out = vec![in alloc; 0xee; reply_len(g, queue == 0, &sqe) as usize]?;
+    let posted = drive.submit(queue, sqe, payload, &mut out);
+    let len = posted.len;
+    Ok(
+        posted.entries.as_slice().first().map(|entry| Answer {
+            entry: *entry,
+            len,
+            out,
+        }),
+    )
+}
+
+// Whether the room was filled with one byte by a command that was done, and else kept.
+fn is_filled(answer: &Answer, byte: u8) -> bool {
+    if answer.entry.code == DONE {
+        answer.len as usize == answer.out.len() && answer.out.iter().all(|x| *x == byte)
+    } else {
+        answer.len == 0 && answer.out.iter().all(|x| *x == 0xee)
+    }
+}
+
+// Serves the rows up to the first that is answered otherwise.
+fn first_wrong(alloc: Global, drive: &mut Solo, rows: &[Row]) -> Result<Option<usize>, Fail> {
+    for (i, (queue, cmd, byte, code, head, phase)) in rows.iter().enumerate() {
+        let Some(answer) = serve(alloc, drive, *queue, *cmd, *byte)? else {
+            return Ok(Some(i));
+        };
+        let entry = answer.entry;
+        let got = (entry.sqid, entry.cid, entry.code, entry.head, entry.phase);
+        if got != (*queue, 7, *code, *head, *phase) || !is_filled(&answer, *byte) {
+            return Ok(Some(i));
+        }
+    }
+    Ok(None)
+}
+
+fn drive_of(alloc: Global, fields: GeometryFields) -> Result<Solo, Fail>
+    requires { IsUnlimited fields }
+{
+    let g = Geometry::new(fields)?;
+    Ok(Solo::new(alloc, g, 32)?)
+}
+
+// The second byte and the pointer of the descriptor of zone 1.
+fn zone_one(alloc: Global, drive: &Solo) -> Result<(u8, u64), Fail> {
+    let zones = drive.geometry().fields().zones as usize;
+    let mut out = vec![in alloc; 0xee; 64 * zones]?;
+    drive.descriptors(&mut out);
+    if zones < 2 {
+        return Ok((0, 0));
+    }
+    Ok((out[65], LittleEndian::read_u64(&out[88..])))
+}
+
+#[test]
+fn commands_in_turn(rt: HostRuntime) -> Result<(), Fail> {
+    let alloc = rt.alloc();
+    let strange = Cmd::Unknown { opcode: 0x55 };
+    let elsewhere = Cmd::Read {
+        nsid: 2,
+        slba: 0,
+        blocks: 1,
+    };
+    let mut drive = drive_of(alloc, PLAIN)?;
+    let rows = [
+        (1, put(0, 1), 0x11, DONE, 1, true),
+        (1, put(2, 1), 0x22, Code { sct: 1, sc: 0xbc }, 2, true),
+        (1, put(64, 49), 0x33, Code { sct: 1, sc: 0xb8 }, 3, true),
+        (2, put(64, 48), 0x44, DONE, 1, true),
+        (1, put(64, 1), 0x55, Code { sct: 1, sc: 0xb9 }, 4, true),
+        (1, put(48, 1), 0x55, Code { sct: 1, sc: 0xbc }, 5, true),
+        (1, put(256, 1), 0x55, Code { sct: 0, sc: 0x80 }, 6, true),
+        (1, strange, 0, Code { sct: 0, sc: 0x01 }, 7, true),
+        (2, elsewhere, 0, Code { sct: 0, sc: 0x0b }, 2, true),
+        (1, get(60, 8), 0, Code { sct: 1, sc: 0xb8 }, 8, true),
+        (1, get(u64::MAX, 1), 0, Code { sct: 0, sc: 0x80 }, 9, true),
+        (1, get(50, 1), 0, DONE, 10, true),
+        (1, get(0, 1), 0x11, DONE, 11, true),
+        (1, get(1, 63), 0, DONE, 12, true),
+        (2, get(64, 48), 0x44, DONE, 3, true),
+        (0, strange, 0, Code { sct: 0, sc: 0x01 }, 1, true),
+    ];
+    assert_eq!(rt; first_wrong(alloc, &mut drive, &rows)?, None);
+    assert_eq!(rt; (drive.spare(), drive.journal().len()), (16, 16));
+    assert_eq!(rt; zone_one(alloc, &drive)?, (0xe0, u64::MAX));
+    let mut page = [0xee; 4096];
+    drive.page(&mut page);
+    assert!(rt; page.iter().all(|x| *x == 0));
+    Ok(())
+}
+
+// A Read may cross zones where the geometry's flag is set.
+#[test]
+fn reads_cross_zones(rt: HostRuntime) -> Result<(), Fail> {
+    let alloc = rt.alloc();
+    let fields = GeometryFields { flags: 1, ..PLAIN };
+    let mut drive = drive_of(alloc, fields)?;
+    let rows = [(1, put(64, 1), 0x44, DONE, 1, true)];
+    assert_eq!(rt; first_wrong(alloc, &mut drive, &rows)?, None);
+    match serve(alloc, &mut drive, 1, get(60, 8), 0)? {
+        None => assert!(rt; false),
+        Some(answer) => {
+            assert_eq!(rt;
+                (answer.entry.code, answer.len, answer.out.len()),
+                (DONE, 4096, 4096)
+            );
+            for (i, byte) in answer.out.iter().enumerate() {
+                let wanted = if i / 512 == 4 { 0x44 } else { 0 };
+                assert_eq!(rt; *byte, wanted, "{i}");
+            }
+        }
+    }
+    Ok(())
+}
+
+// Two pages are the most that one command moves; queues of depth 2 wrap.
+#[test]
+fn limits_of_transfers_and_queues(rt: HostRuntime) -> Result<(), Fail> {
+    let alloc = rt.alloc();
+    let fields = GeometryFields {
+        mdts: 1,
+        depth: 2,
+        ..PLAIN
+    };
+    let mut drive = drive_of(alloc, fields)?;
+    let rows = [
+        (1, put(0, 1), 0x11, DONE, 1, true),
+        (1, put(1, 1), 0x11, DONE, 0, true),
+        (2, get(0, 17), 0, Code { sct: 0, sc: 0x02 }, 1, true),
+        (1, put(2, 1), 0x11, DONE, 1, false),
+        (1, put(3, 1), 0x11, DONE, 0, false),
+        (2, get(4, 16), 0, DONE, 0, true),
+        (1, get(0, 4), 0x11, DONE, 1, true),
+    ];
+    assert_eq!(rt; first_wrong(alloc, &mut drive, &rows)?, None);
+    Ok(())
+}
