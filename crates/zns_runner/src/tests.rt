@@ -101,9 +101,9 @@ fn push_command(file: &mut Vec<u8>, command: Command, cid: u8) -> Result<(), Fai
 
 // A session's bytes. Its commands have the identifiers 1, 2 and so on.
 fn session(alloc: Global, drive: Drive, commands: &[Command]) -> Result<Vec<u8>, Fail> {
-    let mut file = header(alloc, drive, commands.len() as u8)?;
+    let mut file = header(alloc, drive, (commands.len() % 256) as u8)?;
     for (i, command) in commands.iter().enumerate() {
-        push_command(&mut file, *command, (i as u8).wrapping_add(1))?;
+        push_command(&mut file, *command, ((i % 256) as u8).wrapping_add(1))?;
     }
     Ok(file)
 }
@@ -253,7 +253,7 @@ fn each_read_has_its_bytes(rt: HostRuntime) -> Result<(), Fail> {
     // mdts, flags, first LBA and blocks of the Read behind a Write of one block at LBA 64, and the
     // place of that block's bytes among those that it reads
     for (mdts, flags, slba, blocks, place) in [
-        (0, 1, 60, 8, 4),
+        (0, 1, 60, 8, 4u16),
         (0, 0, 64, 2, 0),
         (0, 0, 50, 1, 1),
         (1, 0, 0, 16, 16),
@@ -270,7 +270,7 @@ fn each_read_has_its_bytes(rt: HostRuntime) -> Result<(), Fail> {
         )?;
         let len = 512 * usize::from(blocks);
         let mut bytes = vec![in alloc; 0; len]?;
-        for byte in bytes.iter_mut().skip(512 * place).take(512) {
+        for byte in bytes.iter_mut().skip(512 * usize::from(place)).take(512) {
             *byte = 0x44;
         }
         assert_eq!(rt; last(&out, len), (0, len, bytes.as_slice()));
@@ -278,9 +278,9 @@ fn each_read_has_its_bytes(rt: HostRuntime) -> Result<(), Fail> {
     Ok(())
 }
 
-// The head, the queue and the phase of a session's entry, where all commands are Writes.
-fn place_of(out: &[u8], count: usize, number: usize) -> (u8, u8, u8) {
-    match part(out, 14 + 2 * count + 22 * number, 16) {
+// The head, the queue and the phase of one entry of a session of four Writes.
+fn place_of(out: &[u8], number: u8) -> (u8, u8, u8) {
+    match part(out, 22 + 22 * usize::from(number), 16) {
         [_, _, _, _, _, _, _, _, head, _, queue, _, _, _, low, _] => (*head, *queue, *low % 2),
         _ => (u8::MAX, u8::MAX, u8::MAX),
     }
@@ -312,8 +312,8 @@ fn each_queue_goes_around(rt: HostRuntime) -> Result<(), Fail> {
         let [a, b, c, d] = queues;
         let commands = [on(a, 0), on(b, 1), on(c, 2), on(d, 3)];
         let out = output(alloc, drive, &commands)?;
-        for (number, entry) in entries.iter().enumerate() {
-            assert_eq!(rt; place_of(&out, 4, number), *entry);
+        for (number, entry) in [0, 1, 2, 3].into_iter().zip(entries) {
+            assert_eq!(rt; place_of(&out, number), entry);
         }
     }
     Ok(())
