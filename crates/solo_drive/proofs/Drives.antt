@@ -1,10 +1,8 @@
 -- What the parts of a drive that stands for its journal show.
-use Rattle.std.proofs.Common.{◌≡◌, ℕ, ◌+◌, ◌*◌, ◌^◌, ◌<◌, ◌≤◌, List, [], ◌∷◌, ◌++◌, length, get_or, set, refl, sym, ap, ◌∙◌, arith}
-use Rattle.std.specs.Prelude.{All, replicate, map}
+use Rattle.std.proofs.Common.{◌≡◌, ℕ, ◌^◌, ◌<◌, List, get_or, refl, ap, ◌∙◌, arith}
+use Rattle.std.specs.Prelude.{All, replicate}
 use Rattle.std.specs.List.{flat_map, range_with_len}
-use Rattle.std.proofs.lemmas.List.{get_or_default}
 use Rattle.zns_types.specs.declared.fields.GeometryFields.{GeometryFields}
-use Rattle.zone_state.specs.Shown.{attribute_bits}
 use Rattle.zone_descriptor.specs.Descriptors.{descriptor_bytes}
 use Rattle.zone_cell.specs.Cells.{Cell, fresh, descriptor_of}
 use Rattle.zone_model.specs.declared.act.Act.{Act}
@@ -14,9 +12,8 @@ use Rattle.zone_model.specs.Notices.{changed}
 use Rattle.zone_model.specs.Reports.{bytes_of_all, changed_page}
 use Rattle.zone_model.specs.Replies.{descriptors}
 use Rattle.zone_model.specs.Answers.{answered}
-use Rattle.zone_model.specs.Entries.{acts_on, entries_on}
 use Rattle.solo_drive.specs.declared.tally.Tally.{Tally}
-use Rattle.solo_drive.specs.Standing.{CellStands, CellsStand, TalliesStand, Stands}
+use Rattle.solo_drive.specs.Standing.{CellStands, CellsStand, Stands}
 use Rattle.solo_drive.specs.Serving.{IsPlainCell}
 use Rattle.solo_drive.specs.Reading.{cell_at, descriptor_in}
 use Rattle.solo_drive.proofs.Plain.{plain-window, plain-changed}

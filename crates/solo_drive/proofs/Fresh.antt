@@ -1,12 +1,11 @@
 -- A drive to which nothing was done.
-use Rattle.std.proofs.Common.{◌≡◌, ℕ, ◌<◌, ◌≤◌, false, List, [], None, Option, length, get_or, refl, sym, ap, ◌∙◌, arith, inl, inr}
+use Rattle.std.proofs.Common.{◌≡◌, ℕ, ◌<◌, List, [], None, Option, get_or, refl, sym, arith, inl, inr}
 use Rattle.std.specs.Prelude.{replicate}
 use Rattle.std.proofs.lemmas.Bool.{cases_lt}
 use Rattle.std.proofs.lemmas.List.{get_or_past, length-replicate, get_or-replicate}
 use Rattle.zns_types.specs.declared.fields.GeometryFields.{GeometryFields}
-use Rattle.zns_types.specs.declared.state.State.TheVariants.{Empty}
-use Rattle.zone_cell.specs.Cells.{Cell, IsOf, fresh}
-use Rattle.zone_model.specs.Zones.{state, pointer, pointer_after, window, block, had}
+use Rattle.zone_cell.specs.Cells.{Cell, fresh}
+use Rattle.zone_model.specs.Zones.{state, pointer_after, window, block}
 use Rattle.zone_model.proofs.Histories.{acts_on-none, entries_on-none}
 use Rattle.solo_drive.specs.declared.tally.Tally.{Tally}
 use Rattle.solo_drive.specs.Standing.{IsUnlimited, CellStands, CellsStand, TalliesStand}

@@ -1,5 +1,5 @@
 -- Commands that change no zone: those that are not known.
-use Rattle.std.proofs.Common.{◌≡◌, ℕ, false, true, List, [], refl, ap, ◌∙◌, Option, None, Bool, cond}
+use Rattle.std.proofs.Common.{◌≡◌, ℕ, false, true, List, [], refl, ap, Bool, cond}
 use Rattle.zns_types.specs.declared.fields.GeometryFields.{GeometryFields}
 use Rattle.zns_types.specs.Statuses.{is_success, invalid_opcode}
 use Rattle.sqe_codec.specs.declared.cmd.Cmd.{Cmd}
@@ -8,7 +8,7 @@ use Rattle.zone_cell.specs.Cells.{Cell}
 use Rattle.zone_model.specs.declared.act.Act.{Act}
 use Rattle.zone_model.specs.Places.{Place, command_of}
 use Rattle.zone_model.specs.Answers.{status, and_then}
-use Rattle.zone_model.specs.Replies.{reply_bytes, read_by}
+use Rattle.zone_model.specs.Replies.{reply_bytes}
 use Rattle.solo_drive.specs.Standing.{is_served, IsServed, CellsStand}
 use Rattle.solo_drive.proofs.Stands.{refused}
 

@@ -1,5 +1,5 @@
 -- Histories of Writes, Reads and unknown commands alone, in a geometry without limits and random write areas.
-use Rattle.std.proofs.Common.{◌≡◌, ℕ, Bool, true, false, cond, List, [], ◌∷◌, Option, Some, None, refl, ap, ◌∙◌, inl, inr}
+use Rattle.std.proofs.Common.{◌≡◌, ℕ, Bool, true, false, cond, List, [], ◌∷◌, Option, Some, None, refl, inl, inr}
 use Rattle.std.specs.Prelude.{◌==◌, ◌&&◌, filter}
 use Rattle.std.specs.List.{list_any, AllByRecursion}
 use Rattle.std.proofs.lemmas.Bool.{cases_Bool, and_right, cond-false}
@@ -17,7 +17,7 @@ use Rattle.zone_model.specs.Places.{Place, command_of, is_reset, is_finish, asks
 use Rattle.zone_model.specs.Zones.{window, opened, had, zones}
 use Rattle.zone_model.specs.Notices.{changed, fires_by}
 use Rattle.zone_model.specs.Answers.{status, evicted, zone_move, fires, or_close, commanded, answer, and_then}
-use Rattle.zone_model.specs.Entries.{waits, event_entries, result_of, result_by, no_result, Result}
+use Rattle.zone_model.specs.Entries.{waits}
 use Rattle.solo_drive.specs.Standing.{is_served, IsServed, IsPlainMove, IsPlainPlace, IsPlain, IsUnlimited}
 
 pub evicted-none : (g : GeometryFields) (h : List Place) (a : Act) → IsUnlimited g → evicted g h a ≡ None

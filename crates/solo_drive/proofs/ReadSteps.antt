@@ -1,6 +1,6 @@
 -- One Read: its code is its status, its bytes are what it reads there, and no cell changes.
-use Rattle.std.proofs.Common.{◌≡◌, ℕ, ◌+◌, ◌*◌, ◌-◌, ◌/◌, ◌<◌, ◌≤◌, Bool, true, false, cond, List, [], ◌∷◌, ◌++◌, Option, Some, None, length, get_or, drop, refl, sym, ap, ◌∙◌, arith, inl, inr, length-append, length-drop}
-use Rattle.std.specs.Prelude.{unwrap_or, nat_lt, ◌&&◌, ◌==◌, ◌%◌, not, is_some}
+use Rattle.std.proofs.Common.{◌≡◌, ℕ, ◌+◌, ◌*◌, ◌-◌, ◌<◌, ◌≤◌, Bool, true, false, cond, List, [], ◌∷◌, ◌++◌, Option, Some, None, length, get_or, drop, refl, sym, ap, ◌∙◌, arith, length-append, length-drop}
+use Rattle.std.specs.Prelude.{unwrap_or, nat_lt, ◌&&◌, ◌==◌, ◌%◌, not}
 use Rattle.std.proofs.lemmas.Nat.{div_below}
 use Rattle.std.proofs.lemmas.Bool.{ltb-false, le-ltb}
 use Rattle.std.proofs.lemmas.List.{get_or_default, append-nil}
@@ -18,12 +18,12 @@ use Rattle.zone_state.specs.declared.action.Action.{Action}
 use Rattle.zone_cell.specs.Cells.{Cell, fresh, bytes_at}
 use Rattle.zone_model.specs.declared.act.Act.{Act}
 use Rattle.zone_model.specs.Places.{Place, command_of}
-use Rattle.zone_model.specs.Zones.{state, block, seen}
+use Rattle.zone_model.specs.Zones.{state, seen}
 use Rattle.zone_model.specs.Refusals.{only, write_front, read_rows, zones_between, last_zone}
 use Rattle.zone_model.specs.Answers.{status, zone_move, and_then, no_open_left, first_refusal}
 use Rattle.zone_model.specs.Replies.{reply_bytes, blocks_read}
-use Rattle.std.specs.List.{list_any, range_with_len}
-use Rattle.solo_drive.specs.Standing.{IsServed, IsUnlimited, CellStands, CellsStand}
+use Rattle.std.specs.List.{list_any}
+use Rattle.solo_drive.specs.Standing.{IsServed, IsUnlimited, CellsStand}
 use Rattle.solo_drive.specs.Reading.{cell_at, state_in, block_in, blocks_in, ReadServed}
 use Rattle.solo_drive.proofs.Ranges.{any_same, pieces_same}
 use Rattle.solo_drive.proofs.Refusing.{refused_fails}

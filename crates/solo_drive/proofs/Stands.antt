@@ -1,6 +1,6 @@
 -- A cell that stands for a history stands for the history with one more act.
-use Rattle.std.proofs.Common.{◌≡◌, ◌≢◌, ℕ, ◌+◌, ◌*◌, ◌-◌, ◌≤◌, Bool, true, false, cond, List, ◌∷◌, Option, Some, None, length, get_or, refl, sym, ap, ◌∙◌, arith, inl, inr}
-use Rattle.std.specs.Prelude.{◌&&◌, nat_le, nat_lt, ◌==◌}
+use Rattle.std.proofs.Common.{◌≡◌, ◌≢◌, ℕ, ◌+◌, ◌*◌, ◌-◌, ◌≤◌, Bool, true, false, cond, List, Option, Some, None, length, get_or, refl, sym, ap, ◌∙◌, arith, inl, inr}
+use Rattle.std.specs.Prelude.{◌&&◌, nat_le, nat_lt}
 use Rattle.std.proofs.lemmas.Bool.{cases_Bool, ne_eqb, eq-eqb}
 use Rattle.std.proofs.lemmas.Nat.{pow_pos}
 use Rattle.zns_types.specs.declared.fields.GeometryFields.{GeometryFields}
@@ -14,10 +14,10 @@ use Rattle.zone_state.specs.declared.action.Action.TheVariants as action
 use Rattle.zone_state.specs.Transitions.{moved}
 use Rattle.zone_state.specs.Shown.{is_writable}
 use Rattle.zone_state.specs.Blocks.{block_at}
-use Rattle.zone_cell.specs.Cells.{Cell, IsOf, written, count_of}
+use Rattle.zone_cell.specs.Cells.{Cell, written, count_of}
 use Rattle.zone_model.specs.declared.act.Act.{Act}
 use Rattle.zone_model.specs.Places.{Place, command_of, wrote}
-use Rattle.zone_model.specs.Zones.{state, pointer, window, block, had}
+use Rattle.zone_model.specs.Zones.{state, pointer, block, had}
 use Rattle.zone_model.specs.Answers.{status, zone_move, answer, and_then}
 use Rattle.zone_model.proofs.Steps.{pointer-write, state-step, block-written}
 use Rattle.zone_model.proofs.Quiet.{quiet-none, excursed-none}

@@ -1,5 +1,5 @@
 -- The status of a Write, by the first row that holds.
-use Rattle.std.proofs.Common.{◌≡◌, ℕ, false, List, [], ◌∷◌, ◌++◌, Option, None, refl, ap, ◌∙◌, sym}
+use Rattle.std.proofs.Common.{◌≡◌, ℕ, false, List, [], ◌∷◌, ◌++◌, Option, None, refl, ap}
 use Rattle.std.specs.Prelude.{◌&&◌, ◌||◌, not, unwrap_or, is_some}
 use Rattle.std.proofs.lemmas.Bool.{and_right, and_left}
 use Rattle.zns_types.specs.declared.fields.GeometryFields.{GeometryFields}

@@ -1,5 +1,5 @@
 -- One Write: the code is its status, and the cells stand for the longer history.
-use Rattle.std.proofs.Common.{◌≡◌, ℕ, ◌*◌, ◌<◌, ◌≤◌, false, List, [], ◌∷◌, ◌++◌, Option, Some, None, length, get_or, refl, sym, ap, ◌∙◌, arith, inl, inr, get_or-set_same, get_or-set_other, length-set}
+use Rattle.std.proofs.Common.{◌≡◌, ℕ, ◌*◌, ◌<◌, ◌≤◌, false, List, [], ◌∷◌, Option, Some, None, length, get_or, refl, sym, ap, ◌∙◌, arith, inl, inr, get_or-set_same, get_or-set_other, length-set}
 use Rattle.std.specs.Prelude.{unwrap_or}
 use Rattle.std.proofs.lemmas.Bool.{cases_eq}
 use Rattle.zns_types.specs.declared.fields.GeometryFields.{GeometryFields}
@@ -15,7 +15,7 @@ use Rattle.zone_model.specs.Places.{Place, command_of}
 use Rattle.zone_model.specs.Zones as zones
 use Rattle.zone_model.specs.Refusals.{write_front}
 use Rattle.zone_model.specs.Answers.{status, and_then}
-use Rattle.solo_drive.specs.Standing.{IsServed, IsUnlimited, CellStands, CellsStand}
+use Rattle.solo_drive.specs.Standing.{IsServed, CellStands, CellsStand}
 use Rattle.solo_drive.specs.Serving.{WriteServed}
 use Rattle.solo_drive.proofs.Rows.{front_passes, zone_below, zone_passes}
 use Rattle.solo_drive.proofs.Plain.{plain-window, plain_answer}

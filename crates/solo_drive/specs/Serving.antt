@@ -1,7 +1,7 @@
 -- What serving a command does to the cells of all zones, by their plain data.
-use Rattle.std.specs.Prelude.{◌≡◌, ℕ, ◌*◌, ◌<◌, ◌≤◌, ◌^◌, false, List, length, slice_set, slice_index_or, Some, None, drop, take}
+use Rattle.std.specs.Prelude.{◌≡◌, ℕ, ◌<◌, ◌≤◌, false, List, length, slice_set, slice_index_or, Some, None}
 use Rattle.zns_types.specs.declared.fields.GeometryFields.{GeometryFields}
-use Rattle.zns_types.specs.Geometry.{block_len, zone_of, offset_of}
+use Rattle.zns_types.specs.Geometry.{zone_of, offset_of}
 use Rattle.zns_types.specs.Rows.{first_holding}
 use Rattle.zns_types.specs.Statuses.{Status, success}
 use Rattle.zone_state.specs.ZoneRows.{write_rows}

@@ -1,5 +1,5 @@
 -- The whole result file.
-use Rattle.std.proofs.Common.{◌≡◌, ℕ, List, ◌++◌, refl, sym, ap, ◌∙◌}
+use Rattle.std.proofs.Common.{◌≡◌, ℕ, List, refl, sym, ap, ◌∙◌}
 use Rattle.std.specs.Prelude.{Result, Ok, Err, IfOk}
 use Rattle.zns_types.specs.declared.fields.GeometryFields.{GeometryFields}
 use Rattle.zone_model.specs.declared.act.Act.{Act}
@@ -8,7 +8,7 @@ use Rattle.zone_model.specs.Answers.{answered}
 use Rattle.zone_model.specs.Notices.{changed}
 use Rattle.zone_model.specs.Replies.{descriptors}
 use Rattle.zone_model.specs.Reports.{bytes_of_all, changed_page}
-use Rattle.zone_model.specs.Sessions.{Recorded, own_order, result_bytes, result_of}
+use Rattle.zone_model.specs.Sessions.{Recorded, own_order, result_bytes}
 use Rattle.session_file.specs.Results.{result_parts}
 use Rattle.zns_runner.specs.Sessions.{output}
 use Rattle.zns_runner.specs.Serving.{AreReplies}

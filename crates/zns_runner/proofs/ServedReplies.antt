@@ -1,14 +1,11 @@
 -- The replies to acts, one more.
-use Rattle.std.proofs.Common.{◌≡◌, ℕ, ◌+◌, ◌<◌, ◌≤◌, List, [], ◌∷◌, ◌++◌, length, refl, sym, ap, ◌∙◌, arith, length-append}
-use Rattle.std.specs.Prelude.{All}
-use Rattle.std.specs.List.{flat_map}
-use Rattle.std.proofs.lemmas.List.{flat_map_more, append-nil}
+use Rattle.std.proofs.Common.{◌≡◌, ℕ, ◌+◌, List, [], ◌∷◌, ◌++◌, refl, sym, ap, ◌∙◌, arith, length-append}
+use Rattle.std.proofs.lemmas.List.{flat_map_more}
 use Rattle.std.proofs.lemmas.List.Elements.{All-push}
 use Rattle.zns_types.specs.declared.fields.GeometryFields.{GeometryFields}
 use Rattle.zone_model.specs.declared.act.Act.{Act}
 use Rattle.zone_model.specs.declared.reply.Reply.{Reply}
-use Rattle.zone_model.specs.Answers.{answered, answered_back}
-use Rattle.zone_model.specs.Sessions.{replies_bytes}
+use Rattle.zone_model.specs.Answers.{answered}
 use Rattle.session_file.specs.Results.{IsShort, part_of}
 use Rattle.zns_runner.specs.Serving.{IsReply, AreReplies}
 use Rattle.zns_runner.proofs.Orders.{act_bytes, replies_bytes-push}

@@ -6,7 +6,6 @@ use Rattle.zns_io.specs.Faults.{Rose}
 use Rattle.zns_io.specs.Told.{Gains}
 use Rattle.zns_io.specs.Reading.{ReadsAll}
 use Rattle.zns_io.specs.Writing.{GainsPrefix}
-use Rattle.session_file.specs.declared.file_err.Reason.{Reason}
 use Rattle.session_file.specs.declared.file_err.Reason.TheVariants as reason
 use Rattle.zns_runner.specs.declared.status.Status.{Status}
 use Rattle.zns_runner.specs.declared.status.Status.TheVariants as status

@@ -1,5 +1,5 @@
 -- The sessions that `one` serves, and what it writes.
-use Rattle.std.specs.Prelude.{◌≡◌, ℕ, ◌≤◌, List, [], ◌∷◌, All, codes}
+use Rattle.std.specs.Prelude.{ℕ, ◌≤◌, List, [], ◌∷◌, All, codes}
 use Rattle.zone_model.specs.declared.act.Act.{Act}
 use Rattle.zone_model.specs.Sessions.{Recorded, IsSession, result_of, own_order}
 use Rattle.solo_drive.specs.Standing.{IsServed, IsUnlimited}

@@ -28,3 +28,4 @@ pub mod Drive
 pub mod Examples
 pub mod NoticeExamples
 pub mod EntryExamples
+pub mod MoreNotices

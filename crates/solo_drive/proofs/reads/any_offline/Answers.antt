@@ -1,5 +1,4 @@
 use Rattle.std.proofs.Common.{◌≡◌, ◌+◌, ◌-◌, ◌<◌, ℕ, true, false, length, sym, ap, ◌∙◌, arith, suc}
-use Rattle.std.specs.List.{list_any, range_with_len}
 use Rattle.zns_types.specs.States.{is_offline}
 use Rattle.solo_drive.specs.Reading.{state_in}
 use Rattle.solo_drive.proofs.ShownStates.{shown_state}

@@ -1,6 +1,6 @@
-use Rattle.std.proofs.Common.{◌≡◌, ◌+◌, ◌<◌, ◌≤◌, ◌*◌, length, refl, sym, ap, ◌∙◌, arith, get_or}
+use Rattle.std.proofs.Common.{◌≡◌, ◌+◌, ◌<◌, length, refl, ap, ◌∙◌, arith}
 use Rattle.std.proofs.lemmas.List.{get_or_default}
-use Rattle.zone_cell.specs.Cells.{Cell, fresh, descriptor_of}
+use Rattle.zone_cell.specs.Cells.{fresh, descriptor_of}
 use Rattle.zone_cell.proofs.Pieces.{filled_more}
 use Rattle.zone_descriptor.specs.Descriptors.{descriptor_bytes}
 use Rattle.solo_drive.specs.Reading.{cell_at, descriptor_in}

@@ -1,4 +1,4 @@
-use Rattle.std.proofs.Common.{◌≡◌, List, ◌∙◌, ap}
+use Rattle.std.proofs.Common.{List, ◌∙◌, ap}
 use Rattle.zone_model.specs.declared.act.Act.{Act}
 use Rattle.zone_model.specs.Sessions.{own_order, result_bytes}
 use Rattle.session_file.specs.Results.{result_parts}

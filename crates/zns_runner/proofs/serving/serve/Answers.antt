@@ -1,5 +1,4 @@
-use Rattle.std.proofs.Common.{◌≡◌, ◌∙◌, ap}
-use Rattle.zns_types.specs.declared.fields.GeometryFields.{GeometryFields}
+use Rattle.std.proofs.Common.{◌≡◌, ap}
 use Rattle.solo_drive.specs.Drives.{Drive}
 use Rattle.zone_model.specs.Sessions.{own_order, result_bytes}
 use Rattle.zns_runner.specs.Sessions.{output}

@@ -1,4 +1,4 @@
-use Rattle.std.proofs.Common.{◌≡◌, ◌∷◌, [], arith, length-append, sym, ◌∙◌}
+use Rattle.std.proofs.Common.{◌∷◌, [], arith, length-append, ◌∙◌}
 use Rattle.zone_model.specs.Answers.{answered}
 use Rattle.zns_runner.specs.Serving.{IsReply}
 use Rattle.zns_runner.proofs.ServedReplies.{one_reply_more}

@@ -1,4 +1,4 @@
-use Rattle.std.proofs.Common.{◌≡◌, [], ap, arith, lit<, refl}
+use Rattle.std.proofs.Common.{◌≡◌, [], ap, lit<}
 use Rattle.zone_model.specs.Kept.{KeptActs}
 use Rattle.zone_model.proofs.Histories.{answered-none}
 use Rattle.solo_drive.proofs.Fresh.{fresh_stands, no_tallies}
