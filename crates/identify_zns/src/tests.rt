@@ -85,3 +85,15 @@ fn no_limit_is_all_ones(rt: HostRuntime) -> Result<(), Fail> {
     assert_eq!(rt; read_zoned(&page), shown);
     Ok(())
 }
+
+#[test]
+fn the_zoned_controller_shows_one_byte(rt: HostRuntime) -> Result<(), Fail> {
+    let mut page = vec![in rt.alloc(); 0xff; 4096]?;
+    for zasl in [0, 3, 16] {
+        let g = Geometry::new(GeometryFields { zasl, ..SMALL })?;
+        assert_eq!(rt; fill(0x06, 0x02, &g, &mut page), Ok(()));
+        let wanted = Some((&zasl, [0; 4095].as_slice()));
+        assert_eq!(rt; page.split_first(), wanted);
+    }
+    Ok(())
+}

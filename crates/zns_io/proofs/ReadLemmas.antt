@@ -1,8 +1,9 @@
 -- Told bytes that are read piece by piece.
-use Rattle.std.proofs.Common.{◌≡◌, ℕ, List, ◌++◌, length, Option, Some, None, sym, ap, ◌∙◌, arith, append_assoc, length-append}
+use Rattle.std.proofs.Common.{◌≡◌, ℕ, ◌<◌, List, [], ◌++◌, length, take, Result, Ok, Option, Some, None, sym, ap, ◌∙◌, arith, append_assoc, length-append}
 use Rattle.std.proofs.lemmas.List.{drop_at}
 use Rattle.std.specs.Io.KnownBytes.{Consumes}
-use Rattle.zns_io.specs.Reading.{ReadsFront}
+use Rattle.zns_io.specs.Reading.{ReadsFront, GaveInTurn, none_read, one_read}
+use Rattle.zns_io.specs.declared.failed.Failed.{Failed}
 
 -- read in two pieces, one after the other
 pub Consumes-then : (a b c : Option (List ℕ)) (front more : List ℕ) → Consumes a b front → Consumes b c more → Consumes a c (front ++ more)
@@ -17,3 +18,12 @@ ReadsFront-consumed None b front count p e = tt
 ReadsFront-consumed (Some xs) None front count p e = absurd p
 ReadsFront-consumed (Some xs) (Some ys) front count p e =
     (omega (arith, e, ap length p, length-append front ys), ap Some (sym (rw p (drop_at front ys count e))))
+
+-- nothing was read yet
+pub gave_nothing : {S : Type 0} (step : S → List ℕ → Result ℕ Failed → List ℕ → S → Type 0) (first : S) (bytes : List ℕ) → bytes ≡ [] → GaveInTurn step first bytes first
+gave_nothing step first bytes e = rw e none_read
+
+-- one more read gave some bytes
+pub gave_more : {S : Type 0} (step : S → List ℕ → Result ℕ Failed → List ℕ → S → Type 0) (first now next : S) (bytes more room out : List ℕ) (count : ℕ) →
+    GaveInTurn step first bytes now → 0 < count → step now room (Ok count) out next → more ≡ bytes ++ take count out → GaveInTurn step first more next
+gave_more step first now next bytes more room out count w some s e = rw e (one_read w some s)

@@ -1,8 +1,9 @@
 -- Told bytes that are written piece by piece.
-use Rattle.std.proofs.Common.{◌≡◌, ℕ, ◌-◌, ◌<◌, List, ◌++◌, length, take, drop, Option, Some, None, refl, sym, ap, ◌∙◌, subst, arith, append_assoc, length-append, length-drop}
+use Rattle.std.proofs.Common.{◌≡◌, ℕ, ◌-◌, ◌<◌, List, [], ◌∷◌, ◌++◌, length, take, drop, Option, Some, None, Result, Ok, Err, refl, sym, ap, ◌∙◌, subst, arith, append_assoc, length-append, length-drop}
 use Rattle.std.proofs.lemmas.List.{take-append-drop, take_all, take_at}
 use Rattle.zns_io.specs.Told.{Gains}
-use Rattle.zns_io.specs.Writing.{GainsPrefix}
+use Rattle.zns_io.specs.Writing.{GainsPrefix, OffersAll, all_written, failed, written}
+use Rattle.zns_io.specs.declared.failed.Failed.{Failed}
 
 -- gained in two pieces, one after the other
 pub Gains-then : (a b c : Option (List ℕ)) (front more : List ℕ) → Gains a b front → Gains b c more → Gains a c (front ++ more)
@@ -34,3 +35,25 @@ written_prefix a b c bytes rest w same some = rw same (
   omega (arith, some, ap length w.whole, length-append w.front rest),
   let P : List ℕ → Type 0 = λ f. Gains a b f in subst P (sym (rw w.whole (take_at w.front rest (length w.front) refl))) w.gained,
 )
+
+-- bytes offered up to the rest: however the rest ends, so do all of them
+abbrev pub OfferedUpTo : {K : Type 0} → (K → List ℕ → Result ℕ Failed → K → Type 0) → K → K → List ℕ → List ℕ → Type 0
+OfferedUpTo {K} step first now bytes rest = (answer : Result (Unit {0}) Failed) (last : K) → OffersAll step now rest answer last → OffersAll step first bytes answer last
+
+module _ {K : Type 0} (step : K → List ℕ → Result ℕ Failed → K → Type 0) (first now : K) (bytes : List ℕ) where
+  -- nothing is left
+  pub offered_all : (rest : List ℕ) → OfferedUpTo step first now bytes rest → length rest ≡ 0 → OffersAll step first bytes (Ok tt) now
+  offered_all [] w e = w (Ok tt) now all_written
+  offered_all (b ∷ rest) w e = absurd cc
+
+  -- the write of the rest fails
+  pub offered_failed : (rest : List ℕ) (last : K) (e : Failed) (answer : Result (Unit {0}) Failed) →
+      OfferedUpTo step first now bytes rest → 0 < length rest → step now rest (Err e) last → answer ≡ Err e → OffersAll step first bytes answer last
+  offered_failed rest last e answer w some s same = rw same (w (Err e) last (failed some s))
+
+  -- one more piece of what is left
+  pub offered_then : (rest : List ℕ) (next : K) (count : ℕ) →
+      OfferedUpTo step first now bytes rest → 0 < length rest → step now rest (Ok count) next → OfferedUpTo step first next bytes (take (length rest - count) (drop count rest))
+  offered_then rest next count w some s =
+      rw (take_all (length rest - count) (drop count rest) (omega (arith, length-drop count rest)))
+      (λ answer last more. w answer last (written some s more))

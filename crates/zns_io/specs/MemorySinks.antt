@@ -1,5 +1,6 @@
 -- Sinks that keep bytes in memory, up to a room.
-use Rattle.std.specs.Prelude.{ℕ, Bool, false, ◌||◌, ◌+◌, ◌-◌, nat_le, ◌++◌, min, List, length, take, Option, Some, None, if◌then◌else◌}
+use Rattle.std.specs.Prelude.{◌≡◌, ℕ, Bool, false, ◌||◌, ◌+◌, ◌-◌, nat_le, ◌++◌, min, List, length, take, Option, Some, None, Result, Ok, IfOk, is_err, if◌then◌else◌}
+use Rattle.zns_io.specs.declared.failed.Failed.{Failed}
 use Rattle.zns_io.specs.Calls.{Calls, is_due, calls_after}
 
 -- The bytes kept, whether no write was dropped, how many bytes are kept at most, and how many of
@@ -30,6 +31,10 @@ sink_after_write sink offered =
       piece = sink.piece;
     }
 
+-- what a write answers, and the sink after it
+abbrev pub WritesSurely : SinkBytes → List ℕ → Result ℕ Failed → SinkBytes → Type 0
+WritesSurely sink offered result after = (result ≡ Ok (write_len sink.piece offered)) × (after ≡ sink_after_write sink offered)
+
 -- A sink that takes no more than its room, and of which some calls fail: the bytes taken, how many
 -- are taken at most, and how many of them by one write.
 pub record FailingSink : Type 0 where
@@ -55,3 +60,8 @@ sink_after_call sink offered =
       piece = sink.piece;
       calls = calls_after sink.calls (is_due_or_full sink);
     }
+
+-- what a write answers, and the sink after it
+abbrev pub WritesInRoom : FailingSink → List ℕ → Result ℕ Failed → FailingSink → Type 0
+WritesInRoom sink offered result after =
+    (is_err result ≡ is_due_or_full sink) × IfOk result (λ n. n ≡ write_len_in_room sink offered) × (after ≡ sink_after_call sink offered)

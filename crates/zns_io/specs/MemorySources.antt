@@ -1,5 +1,6 @@
 -- Sources of bytes in memory.
-use Rattle.std.specs.Prelude.{ℕ, ◌++◌, min, List, length, take, drop, if◌then◌else◌}
+use Rattle.std.specs.Prelude.{◌≡◌, ℕ, ◌++◌, min, List, length, take, drop, Result, Ok, IfOk, OnOk, OnErr, is_err, if◌then◌else◌}
+use Rattle.zns_io.specs.declared.failed.Failed.{Failed}
 use Rattle.zns_io.specs.Calls.{Calls, is_due, calls_after}
 
 -- The bytes still to come, and how many of them a read gives at most.
@@ -21,6 +22,11 @@ abbrev pub source_after_read : SourceBytes → ℕ → SourceBytes
 source_after_read source room =
     record { left = drop (read_len source room) source.left; piece = source.piece }
 
+-- what a read into some room answers, puts there and leaves
+abbrev pub GivesSurely : SourceBytes → List ℕ → Result ℕ Failed → List ℕ → SourceBytes → Type 0
+GivesSurely source room result out after =
+    (result ≡ Ok (read_len source (length room))) × (out ≡ out_after_read source room) × (after ≡ source_after_read source (length room))
+
 -- A source of which some calls fail.
 pub record FailingSource : Type 0 where
   pub bytes : SourceBytes
@@ -33,3 +39,12 @@ source_after_call source room =
       bytes = if is_due source.calls then source.bytes else source_after_read source.bytes room;
       calls = calls_after source.calls (is_due source.calls);
     }
+
+-- what a read into some room answers, puts there and leaves
+abbrev pub GivesOrFails : FailingSource → List ℕ → Result ℕ Failed → List ℕ → FailingSource → Type 0
+GivesOrFails source room result out after =
+    (is_err result ≡ is_due source.calls)
+    × IfOk result (λ n. n ≡ read_len source.bytes (length room))
+    × OnOk result (out ≡ out_after_read source.bytes room)
+    × OnErr result (out ≡ room)
+    × (after ≡ source_after_call source (length room))

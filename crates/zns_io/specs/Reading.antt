@@ -1,5 +1,6 @@
--- What reading a source to its end answers.
-use Rattle.std.specs.Prelude.{◌≡◌, ℕ, ◌<◌, ◌≤◌, List, [], length, drop, Option, Some, None, Result, Ok, Err, ⊤}
+-- What reading a source to its end answers, and the reads that it makes.
+use Rattle.std.specs.Prelude.{◌≡◌, ℕ, ◌+◌, ◌<◌, ◌≤◌, List, [], ◌++◌, length, take, drop, Option, Some, None, Result, Ok, Err, ⊤}
+use Rattle.zns_io.specs.declared.failed.Failed.{Failed}
 use Rattle.zns_io.specs.declared.bytes.Bytes.{Bytes}
 use Rattle.zns_io.specs.declared.read_err.ReadErr.{ReadErr}
 use Rattle.zns_io.specs.declared.read_err.ReadErr.TheVariants as errors
@@ -25,3 +26,19 @@ IsByLimit (Some told) limit (Ok bytes) = length told ≤ limit
 IsByLimit (Some told) limit (Err errors.Over) = limit < length told
 IsByLimit (Some told) limit (Err errors.NoMemory) = ⊤
 IsByLimit (Some told) limit (Err errors.Failed) = ⊤
+
+-- Reads in turn that each gave some bytes, and all these bytes. `step` relates a source and the room that it is given to an
+-- answer, to what stands in the room after, and to the source after.
+pub data GaveInTurn {S : Type 0} (step : S → List ℕ → Result ℕ Failed → List ℕ → S → Type 0) (first : S) : List ℕ → S → Type 0 where
+  none_read : GaveInTurn step first [] first
+  one_read : {now next : S} {bytes room out : List ℕ} {count : ℕ} →
+      GaveInTurn step first bytes now → 0 < count → step now room (Ok count) out next → GaveInTurn step first (bytes ++ take count out) next
+
+-- The first read that gives nothing ends it, and so does the first that fails. Otherwise more bytes came than the limit, or memory is wanting.
+abbrev pub ReadsInTurn : {S : Type 0} → (S → List ℕ → Result ℕ Failed → List ℕ → S → Type 0) → S → ℕ → Result Bytes ReadErr → S → Type 0
+ReadsInTurn {S} step first limit (Ok bytes) last =
+    (now : S) × (room : List ℕ) × (out : List ℕ) × GaveInTurn step first bytes now × step now room (Ok 0) out last
+ReadsInTurn {S} step first limit (Err errors.Failed) last =
+    (bytes : List ℕ) × (now : S) × (room : List ℕ) × (out : List ℕ) × (e : Failed) × (length bytes ≤ limit) × GaveInTurn step first bytes now × step now room (Err e) out last
+ReadsInTurn step first limit (Err errors.Over) last = (bytes : List ℕ) × (length bytes ≡ limit + 1) × GaveInTurn step first bytes last
+ReadsInTurn step first limit (Err errors.NoMemory) last = (bytes : List ℕ) × (length bytes ≤ limit + 1) × GaveInTurn step first bytes last

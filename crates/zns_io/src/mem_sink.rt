@@ -1,5 +1,5 @@
 ghost use Rattle.std.specs.Prelude.{◌≡◌, ℕ, ◌<◌, ◌≤◌, [], length, take, Some, IfOk, is_err};
-ghost use Rattle.zns_io.specs.MemorySinks.{FailingSink, is_due_or_full, write_len_in_room, sink_after_call};
+ghost use Rattle.zns_io.specs.MemorySinks.{FailingSink, WritesInRoom, is_due_or_full, write_len_in_room, sink_after_call};
 
 use crate::calls::CallPlan;
 use crate::failed::Failed;
@@ -55,6 +55,8 @@ impl Sink for MemSink {
     ghost taken = { λ s. Some s.taken };
 
     ghost faults = { λ s. s.calls.faults };
+
+    ghost step = { WritesInRoom };
 
     fn write(&mut self, piece: &[u8]) -> Result<usize, Failed>
         requires { 0 < length piece.now }

@@ -1,7 +1,7 @@
 ghost use Rattle.std.specs.Prelude.{◌≡◌, ℕ, ◌<◌, ◌≤◌, length, take, Ok, Some, IfOk, OnOk, OnErr, is_err};
 ghost use Rattle.std.specs.Io.KnownBytes.{IsAtEnd};
 ghost use Rattle.zns_io.specs.Calls.{is_due};
-ghost use Rattle.zns_io.specs.MemorySources.{read_len, out_after_read, source_after_call};
+ghost use Rattle.zns_io.specs.MemorySources.{GivesOrFails, read_len, out_after_read, source_after_call};
 
 use crate::bytes::Bytes;
 use crate::calls::CallPlan;
@@ -44,6 +44,8 @@ impl Source for MemSource {
     ghost left = { λ s. Some s.bytes.left };
 
     ghost faults = { λ s. s.calls.faults };
+
+    ghost step = { GivesOrFails };
 
     fn read(&mut self, out: &mut [u8]) -> Result<usize, Failed>
         requires { 0 < length out.old }

@@ -1,7 +1,7 @@
 ghost use Rattle.std.specs.Prelude.{◌≡◌, ℕ, ◌+◌, ◌<◌, ◌≤◌, ◌^◌, List, length, IfOk, OnOk, IsErrOf};
 ghost use Rattle.std.specs.Io.KnownBytes.{IsAtEnd};
 ghost use Rattle.zns_io.specs.Faults.{Rose};
-ghost use Rattle.zns_io.specs.Reading.{ReadsAll, ReadsFront, ReadsFrontUpTo, IsByLimit};
+ghost use Rattle.zns_io.specs.Reading.{ReadsInTurn, ReadsAll, ReadsFront, ReadsFrontUpTo, IsByLimit};
 
 use crate::bytes::Bytes;
 use crate::read_err::ReadErr;
@@ -23,6 +23,9 @@ pub fn read_all<S: Source>(alloc: Global, source: &mut S, limit: u64) -> Result<
         → ReadsFront (S.left source.old) (S.left source.new) (limit + 1) }
     ensures by_limit { IsByLimit (S.left source.old) limit result }
     ensures at_most { ReadsFrontUpTo (S.left source.old) (S.left source.new) (limit + 1) }
+
+    // The first read that gives nothing ends it, and so does the first that fails.
+    ensures turns { ReadsInTurn S.step source.old limit result source.new }
 
     // Every fault is counted.
     ensures fault { IsErrOf result ReadErr.Failed

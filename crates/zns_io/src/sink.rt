@@ -6,6 +6,8 @@ use crate::failed::Failed;
 pub trait Sink {
     ghost use Rattle.zns_io.specs.Faults.{Rose};
     ghost use Rattle.zns_io.specs.Told.{Gains};
+    ghost use Rattle.std.specs.Prelude.{Result};
+    ghost use Rattle.zns_io.specs.declared.failed.Failed.{Failed};
 
     /// The bytes taken so far, where the sink tells them.
     ghost taken: { Self → Option (List ℕ) };
@@ -13,9 +15,13 @@ pub trait Sink {
     /// How many calls failed, up to `u64::MAX`.
     ghost faults: { Self → ℕ };
 
+    /// What a write of a piece may answer, and the sink that it may leave.
+    ghost step: { Self → List ℕ → Result ℕ Failed → Self → Type 0 };
+
     /// Takes some bytes from the front of `piece`, which has some, and says how many.
     fn write(&mut self, piece: &[u8]) -> Result<usize, Failed>
         requires { 0 < length piece.now }
+        ensures step { step self.old piece.now result self.new }
         ensures some { IfOk result (λ n. 1 ≤ n) }
         ensures bound { IfOk result (λ n. n ≤ length piece.now) }
         ensures bytes { IfOk result (λ n. Gains (taken self.old) (taken self.new) (take n piece.now)) }

@@ -7,6 +7,8 @@ pub trait Source {
     ghost use Rattle.std.specs.Io.{ReadsAtMost};
     ghost use Rattle.std.specs.Io.KnownBytes.{Consumes, IsAtEnd};
     ghost use Rattle.zns_io.specs.Faults.{Rose};
+    ghost use Rattle.std.specs.Prelude.{Result};
+    ghost use Rattle.zns_io.specs.declared.failed.Failed.{Failed};
 
     /// The bytes still to come, where the source tells them.
     ghost left: { Self → Option (List ℕ) };
@@ -14,9 +16,13 @@ pub trait Source {
     /// How many calls failed, up to `u64::MAX`.
     ghost faults: { Self → ℕ };
 
+    /// What a read into some room may answer, put there, and leave of the source.
+    ghost step: { Self → List ℕ → Result ℕ Failed → List ℕ → Self → Type 0 };
+
     /// Puts some bytes in front of `out`, which has room, and says how many. 0 is the end.
     fn read(&mut self, out: &mut [u8]) -> Result<usize, Failed>
         requires { 0 < length out.old }
+        ensures step { step self.old out.old result out.new self.new }
         ensures bound { ReadsAtMost result out.new }
         ensures bytes { IfOk result (λ n. Consumes (left self.old) (left self.new) (take n out.new)) }
         ensures end { IfOk result (λ n. n ≡ 0 → IsAtEnd (left self.new)) }

@@ -1,6 +1,7 @@
 ghost use Rattle.std.specs.Prelude.{◌≡◌, ℕ, ◌<◌, ◌≤◌, length, take, IfOk, OnErr, is_err};
 ghost use Rattle.zns_io.specs.Faults.{count_after};
 ghost use Rattle.zns_io.specs.Told.{Gains};
+ghost use Rattle.zns_io.specs.Streams.{WritesCounted};
 
 use crate::failed::Failed;
 use crate::sink::Sink;
@@ -48,6 +49,8 @@ impl<W: Write> Sink for StdSink<W> {
     ghost taken = { λ s. s.told };
 
     ghost faults = { λ s. s.faults };
+
+    ghost step = { WritesCounted };
 
     fn write(&mut self, piece: &[u8]) -> Result<usize, Failed>
         requires { 0 < length piece.now }

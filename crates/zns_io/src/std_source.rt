@@ -2,6 +2,7 @@ ghost use Rattle.std.specs.Prelude.{◌≡◌, ℕ, ◌<◌, ◌≤◌, length, 
 ghost use Rattle.std.specs.Io.{ReadsAtMost};
 ghost use Rattle.std.specs.Io.KnownBytes.{Consumes, IsAtEnd};
 ghost use Rattle.zns_io.specs.Faults.{count_after};
+ghost use Rattle.zns_io.specs.Streams.{ReadsCounted};
 
 use crate::failed::Failed;
 use crate::source::Source;
@@ -49,6 +50,8 @@ impl<R: Read> Source for StdSource<R> {
     ghost left = { λ s. s.told };
 
     ghost faults = { λ s. s.faults };
+
+    ghost step = { ReadsCounted };
 
     fn read(&mut self, out: &mut [u8]) -> Result<usize, Failed>
         requires { 0 < length out.old }

@@ -1,5 +1,5 @@
 ghost use Rattle.std.specs.Prelude.{◌≡◌, ℕ, ◌<◌, ◌≤◌, ◌-◌, [], true, length, take, Ok, IfOk};
-ghost use Rattle.zns_io.specs.MemorySinks.{bytes_told, write_len, sink_after_write};
+ghost use Rattle.zns_io.specs.MemorySinks.{WritesSurely, bytes_told, write_len, sink_after_write};
 
 use crate::failed::Failed;
 use crate::no_memory::NoMemory;
@@ -63,6 +63,8 @@ impl Sink for SureSink {
     ghost taken = { bytes_told };
 
     ghost faults = { λ _. 0 };
+
+    ghost step = { WritesSurely };
 
     fn write(&mut self, piece: &[u8]) -> Result<usize, Failed>
         requires { 0 < length piece.now }

@@ -1,6 +1,6 @@
 ghost use Rattle.std.specs.Prelude.{◌≡◌, ℕ, ◌<◌, ◌≤◌, length, take, Ok, Some, IfOk, OnErr};
 ghost use Rattle.std.specs.Io.KnownBytes.{IsAtEnd};
-ghost use Rattle.zns_io.specs.MemorySources.{read_len, out_after_read, source_after_read};
+ghost use Rattle.zns_io.specs.MemorySources.{GivesSurely, read_len, out_after_read, source_after_read};
 
 use crate::bytes::Bytes;
 use crate::failed::Failed;
@@ -44,6 +44,8 @@ impl Source for SureSource {
     ghost left = { λ s. Some s.left };
 
     ghost faults = { λ _. 0 };
+
+    ghost step = { GivesSurely };
 
     fn read(&mut self, out: &mut [u8]) -> Result<usize, Failed>
         requires { 0 < length out.old }

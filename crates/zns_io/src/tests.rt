@@ -129,10 +129,53 @@ fn readers_and_writers_of_std(rt: HostRuntime) -> Result<(), Fail> {
     drop(sink);
     assert_eq!(rt; items.as_slice(), bytes.as_slice());
 
+    // Each call is one of the reader or the writer, with all the room or all the bytes.
+    let mut out = [0; 4096];
+    let mut source = StdSource::new(bytes.as_slice());
+    for len in [4096, 904, 0] {
+        assert_eq!(rt; source.read(&mut out), Ok(len));
+    }
+    let mut sink = StdSink::new(Vec::new(alloc));
+    assert!(rt; !bytes.is_empty());
+    assert_eq!(rt; sink.write(&bytes), Ok(5000));
+
     let mut room = [0; 4];
     let mut small = StdSink::new(&mut room[..]);
     assert_eq!(rt; write_all(&mut small, &bytes), Err(Failed));
     drop(small);
     assert_eq!(rt; room, [0, 1, 2, 3]);
+    Ok(())
+}
+
+#[test]
+fn bytes_are_copied_and_filled(rt: HostRuntime) -> Result<(), Fail> {
+    let alloc = rt.alloc();
+    for from in [[].as_slice(), [7].as_slice(), [0, 255, 1, 0].as_slice()] {
+        assert_eq!(rt; Bytes::of(alloc, from)?.as_slice(), from);
+    }
+    for (len, byte, want) in [
+        (0, 7, [].as_slice()),
+        (1, 255, [255].as_slice()),
+        (4, 0, [0, 0, 0, 0].as_slice()),
+        (3, 0x11, [0x11, 0x11, 0x11].as_slice()),
+    ] {
+        assert_eq!(rt; Bytes::filled(alloc, len, byte)?.as_slice(), want);
+    }
+    Ok(())
+}
+
+#[test]
+fn errors_say_what_is_wrong(rt: HostRuntime) -> Result<(), Fail> {
+    let alloc = rt.alloc();
+    let failed = format!(in alloc; "{}", Failed)?;
+    assert_eq!(rt; failed.as_str(), "a read or a write failed");
+    for (error, want) in [
+        (ReadErr::NoMemory, "memory is wanting"),
+        (ReadErr::Failed, "a read failed"),
+        (ReadErr::Over, "more bytes came than were allowed"),
+    ] {
+        let text = format!(in alloc; "{error}")?;
+        assert_eq!(rt; text.as_str(), want);
+    }
     Ok(())
 }

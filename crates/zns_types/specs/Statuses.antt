@@ -1,6 +1,6 @@
 -- The statuses of a command: NVM Express Base Specification 2.0, 3.3.3.2 (the status field), and Zoned Namespace
 -- Command Set Specification 1.1, 4.1 (the codes of zones).
-use Rattle.std.specs.Prelude.{ℕ, Bool, not, ◌==◌, ◌&&◌, if◌then◌else◌, false}
+use Rattle.std.specs.Prelude.{ℕ, Bool, not, ◌==◌, ◌&&◌, if◌then◌else◌, false, List, [], ◌∷◌}
 
 -- the status code type and the status code
 pub record Status : Type 0 where
@@ -63,6 +63,28 @@ too_many_open_zones = specific 0xbe
 
 abbrev pub invalid_zone_state_transition : Status
 invalid_zone_state_transition = specific 0xbf
+
+-- all of them, from success on
+abbrev pub all_statuses : List Status
+all_statuses =
+    success
+    ∷ invalid_opcode
+    ∷ invalid_field
+    ∷ invalid_namespace
+    ∷ lba_out_of_range
+    ∷ event_limit_exceeded
+    ∷ invalid_log_page
+    ∷ invalid_zone_operation
+    ∷ zrwa_resources_unavailable
+    ∷ zone_boundary_error
+    ∷ zone_full
+    ∷ zone_read_only
+    ∷ zone_offline
+    ∷ zone_invalid_write
+    ∷ too_many_active_zones
+    ∷ too_many_open_zones
+    ∷ invalid_zone_state_transition
+    ∷ []
 
 abbrev pub same_status : Status → Status → Bool
 same_status a b = if a.sct == b.sct then a.sc == b.sc else false

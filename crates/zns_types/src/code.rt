@@ -1,5 +1,5 @@
 ghost use Rattle.std.specs.Prelude.{◌≡◌, ◌<◌};
-ghost use Rattle.zns_types.specs.Statuses.{Status, do_not_retry, success};
+ghost use Rattle.zns_types.specs.Statuses.{Status, all_statuses, do_not_retry, success};
 
 use std::marker::Model;
 
@@ -65,6 +65,31 @@ impl Code {
     pub const TOO_MANY_OPEN_ZONES: Code = Code { sct: 1, sc: 0xbe };
 
     pub const INVALID_ZONE_STATE_TRANSITION: Code = Code { sct: 1, sc: 0xbf };
+
+    /// All codes, from success on.
+    pub fn all() -> [Code; 17]
+        ensures { result ≡ all_statuses }
+    {
+        [
+            Code::SUCCESS,
+            Code::INVALID_OPCODE,
+            Code::INVALID_FIELD,
+            Code::INVALID_NAMESPACE,
+            Code::LBA_OUT_OF_RANGE,
+            Code::EVENT_LIMIT_EXCEEDED,
+            Code::INVALID_LOG_PAGE,
+            Code::INVALID_ZONE_OPERATION,
+            Code::ZRWA_RESOURCES_UNAVAILABLE,
+            Code::ZONE_BOUNDARY_ERROR,
+            Code::ZONE_FULL,
+            Code::ZONE_READ_ONLY,
+            Code::ZONE_OFFLINE,
+            Code::ZONE_INVALID_WRITE,
+            Code::TOO_MANY_ACTIVE_ZONES,
+            Code::TOO_MANY_OPEN_ZONES,
+            Code::INVALID_ZONE_STATE_TRANSITION,
+        ]
+    }
 
     /// Whether the command would be refused again: so for every status that is an error, other than
     /// want of a resource that another command may give back.

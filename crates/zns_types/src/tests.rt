@@ -337,6 +337,22 @@ fn a_drive_has_these_lengths(rt: HostRuntime) {
 }
 
 #[test]
+fn blocks_lie_in_their_zones(rt: HostRuntime) {
+    let made = Geometry::new(DRIVE);
+    assert!(rt; made.is_ok());
+    if let Ok(geometry) = made {
+        for (lba, zone) in [(0, 0), (63, 0), (64, 1), (4_095, 63)] {
+            assert!(rt; lba < geometry.blocks());
+            assert_eq!(rt; geometry.zone_of(lba), zone, "at {lba}");
+        }
+        for (zone, first) in [(0, 0), (1, 64), (63, 4_032)] {
+            assert!(rt; zone < geometry.fields().zones);
+            assert_eq!(rt; geometry.first(zone), first, "at {zone}");
+        }
+    }
+}
+
+#[test]
 fn each_state_has_its_number(rt: HostRuntime) {
     let mut found = [None; 256];
     let states = [
@@ -378,7 +394,9 @@ fn want_of_a_resource_may_be_tried_again(rt: HostRuntime) {
         (Code::TOO_MANY_OPEN_ZONES, 1, 0xbe, false),
         (Code::INVALID_ZONE_STATE_TRANSITION, 1, 0xbf, true),
     ];
+    let mut all = Code::all().into_iter();
     for (code, sct, sc, dnr) in rows {
+        assert_eq!(rt; all.next(), Some(code));
         assert_eq!(rt; (code.sct, code.sc), (sct, sc));
         assert_eq!(rt; code.dnr(), dnr);
     }
