@@ -1,9 +1,10 @@
-ghost use Rattle.std.specs.Prelude.{◌≡◌, ℕ, ◌+◌, ◌*◌, ◌<◌, ◌≤◌, ◌^◌, ◌||◌, ◌==◌, IfOk, length, None, slice_index_or, option_copied, is_some, IfSome, map};
+ghost use Rattle.std.specs.Prelude.{◌≡◌, ℕ, ◌+◌, ◌*◌, ◌<◌, ◌≤◌, ◌^◌, ◌||◌, ◌==◌, IfOk, length, None, slice_index_or, option_copied, is_some, IfSome, IsSome, map};
 ghost use Rattle.zns_types.specs.declared.fields.GeometryFields.{GeometryFields};
 ghost use Rattle.zns_types.specs.Geometry.{block_len};
 ghost use Rattle.zone_state.specs.Shown.{attribute_bits};
 ghost use Rattle.zone_cell.specs.Cells.{IsOf, IsBlocks, fresh, cleared, led, with_blocks, count_of, bytes_at};
 ghost use Rattle.zone_cell.specs.Kept.{kept_blocks};
+ghost use Rattle.zrwa_window.specs.Marks.{holes};
 
 use crate::states::{is_active, is_writable};
 use std::alloc::Global;
@@ -209,6 +210,7 @@ impl ZoneCell {
         requires { from < 2 ^ 32 }
         ensures bytes { IfSome result (λ bytes. bytes.now ≡ bytes_at self.now from count) }
         ensures len { IfSome result (λ bytes. length bytes.now ≡ count * self.now.block_len) }
+        ensures whole { from + count ≤ length self.now.blocks → holes (map is_some self.now.blocks) from (from + count) ≡ 0 → IsSome result }
     {
         let end = from + u64::from(count);
         if end > u64::from(self.written.len()) {

@@ -6,7 +6,7 @@ use crate::states::is_active;
 use std::alloc::Global;
 use std::test::Fail;
 use zns_io::Bytes;
-use zns_types::{Code, Geometry, GeometryFields};
+use zns_types::{Code, Geometry, GeometryFields, State};
 use zone_state::Action;
 use zrwa_commit::explicit;
 
@@ -42,14 +42,25 @@ enum Step {
 
     // Whether so many blocks from an offset on are of one byte.
     Read(u32, u32, u8),
+
+    // Whether the zone is in a state, with a random write area or without.
+    Is(State, bool),
 }
 
-use Step::{Append, Flush, Open, Read, Reset, Write};
+use Step::{Append, Flush, Is, Open, Read, Reset, Write};
 
 // A step, its status, and the pointer after it.
 type Row = (Step, Code, u64);
 
-const DONE: Code = Code::SUCCESS;
+const DONE: Code = Code { sct: 0, sc: 0 };
+
+const NO_WRITES_BESIDE: Code = Code { sct: 1, sc: 0xb6 };
+
+const PAST_CAPACITY: Code = Code { sct: 1, sc: 0xb8 };
+
+const FULL: Code = Code { sct: 1, sc: 0xb9 };
+
+const MISPLACED: Code = Code { sct: 1, sc: 0xbc };
 
 // Not as a test expects.
 const WRONG: Code = Code::INVALID_OPCODE;
@@ -173,6 +184,10 @@ fn take(alloc: Global, cell: &mut ZoneCell, g: &Geometry, step: Step) -> Result<
         }
         Flush(last) => Ok(flush(cell, g, last)),
         Read(from, count, byte) => read(alloc, cell, g, from, count, byte),
+        Is(state, window) => {
+            let same = cell.state() == state && cell.has_window() == window;
+            Ok(if same { DONE } else { WRONG })
+        }
     }
 }
 
@@ -191,18 +206,38 @@ fn first_wrong(alloc: Global, rows: &[Row]) -> Result<Option<usize>, Fail> {
 
 #[test]
 fn writes_move_the_window(rt: HostRuntime) -> Result<(), Fail> {
-    let rows = [
+    let again = [
         (Open, DONE, 0),
         (Write(4, 2, 0x11), DONE, 0),
         (Write(4, 2, 0x22), DONE, 0),
         (Read(4, 2, 0x22), DONE, 0),
-        (Read(0, 1, 0), DONE, 0),
-        (Write(16, 1, 0x44), Code::ZONE_INVALID_WRITE, 0),
-        (Append(1, 0x55), Code::INVALID_ZONE_OPERATION, 0),
-        (Write(8, 1, 0x44), DONE, 4),
-        (Write(15, 1, 0x44), DONE, 8),
+        (Read(0, 4, 0), DONE, 0),
     ];
-    assert_eq!(rt; first_wrong(rt.alloc(), &rows)?, None);
+    let past_the_window = [(Open, DONE, 0), (Write(8, 1, 0x44), DONE, 4)];
+    let to_two_windows = [(Open, DONE, 0), (Write(15, 1, 0x44), DONE, 8)];
+    let past_two_windows = [
+        (Open, DONE, 0),
+        (Write(16, 1, 0x44), MISPLACED, 0),
+        (Read(0, 64, 0), DONE, 0),
+        (Append(1, 0x55), NO_WRITES_BESIDE, 0),
+        (Is(State::ExplicitlyOpened, true), DONE, 0),
+    ];
+    assert_eq!(rt; first_wrong(rt.alloc(), &again)?, None, "again");
+    assert_eq!(rt;
+        first_wrong(rt.alloc(), &past_the_window)?,
+        None,
+        "past the window"
+    );
+    assert_eq!(rt;
+        first_wrong(rt.alloc(), &to_two_windows)?,
+        None,
+        "to two windows"
+    );
+    assert_eq!(rt;
+        first_wrong(rt.alloc(), &past_two_windows)?,
+        None,
+        "past two windows"
+    );
     Ok(())
 }
 
@@ -216,7 +251,8 @@ fn flushes_fill_the_zone(rt: HostRuntime) -> Result<(), Fail> {
         (Flush(31), DONE, 32),
         (Flush(39), DONE, 40),
         (Flush(43), DONE, 44),
-        (Write(48, 1, 0x66), Code::ZONE_BOUNDARY_ERROR, 44),
+        (Write(48, 1, 0x66), PAST_CAPACITY, 44),
+        (Is(State::ExplicitlyOpened, true), DONE, 44),
     ];
     let to_the_end = [
         (Open, DONE, 0),
@@ -226,8 +262,10 @@ fn flushes_fill_the_zone(rt: HostRuntime) -> Result<(), Fail> {
         (Flush(31), DONE, 32),
         (Flush(39), DONE, 40),
         (Write(40, 8, 0x77), DONE, 40),
+        (Is(State::ExplicitlyOpened, true), DONE, 40),
         (Flush(47), DONE, 48),
-        (Write(48, 1, 0x77), Code::ZONE_FULL, 48),
+        (Is(State::Full, false), DONE, 48),
+        (Write(40, 1, 0x88), FULL, 48),
         (Read(40, 8, 0x77), DONE, 48),
     ];
     let with_holes = [
@@ -238,16 +276,6 @@ fn flushes_fill_the_zone(rt: HostRuntime) -> Result<(), Fail> {
         (Read(1, 1, 0x33), DONE, 4),
         (Read(2, 2, 0), DONE, 4),
     ];
-    let reset = [
-        (Write(0, 48, 0x88), DONE, 48),
-        (Reset, DONE, 0),
-        (Read(0, 64, 0), DONE, 0),
-        (Write(0, 1, 0x99), DONE, 1),
-        (Read(0, 1, 0x99), DONE, 1),
-        (Read(1, 63, 0), DONE, 1),
-        (Append(2, 0xaa), DONE, 3),
-        (Read(1, 2, 0xaa), DONE, 3),
-    ];
     assert_eq!(rt;
         first_wrong(rt.alloc(), &past_the_end)?,
         None,
@@ -255,6 +283,69 @@ fn flushes_fill_the_zone(rt: HostRuntime) -> Result<(), Fail> {
     );
     assert_eq!(rt; first_wrong(rt.alloc(), &to_the_end)?, None, "to the end");
     assert_eq!(rt; first_wrong(rt.alloc(), &with_holes)?, None, "with holes");
-    assert_eq!(rt; first_wrong(rt.alloc(), &reset)?, None, "after a reset");
+    Ok(())
+}
+
+#[test]
+fn a_reset_forgets_all_blocks(rt: HostRuntime) -> Result<(), Fail> {
+    let filled = [
+        (Write(0, 48, 0x88), DONE, 48),
+        (Is(State::Full, false), DONE, 48),
+        (Reset, DONE, 0),
+        (Is(State::Empty, false), DONE, 0),
+        (Read(0, 64, 0), DONE, 0),
+        (Write(0, 1, 0x99), DONE, 1),
+        (Read(0, 1, 0x99), DONE, 1),
+        (Read(1, 63, 0), DONE, 1),
+        (Append(2, 0xaa), DONE, 3),
+        (Read(1, 2, 0xaa), DONE, 3),
+    ];
+    let with_window = [
+        (Open, DONE, 0),
+        (Write(6, 2, 0x88), DONE, 0),
+        (Reset, DONE, 0),
+        (Is(State::Empty, false), DONE, 0),
+        (Read(0, 64, 0), DONE, 0),
+        (Write(6, 1, 0x99), MISPLACED, 0),
+    ];
+    assert_eq!(rt; first_wrong(rt.alloc(), &filled)?, None, "of a full zone");
+    assert_eq!(rt;
+        first_wrong(rt.alloc(), &with_window)?,
+        None,
+        "with a random write area"
+    );
+    Ok(())
+}
+
+// Whether a cell of 48 blocks has marked just these.
+fn has_marked(cell: &ZoneCell, blocks: &[u32]) -> bool {
+    let written = cell.written();
+    for block in 0..written.len() {
+        if written.is_written(block) != blocks.contains(&block) {
+            return false;
+        }
+    }
+    written.len() == 48
+}
+
+#[test]
+fn marks_tell_what_was_written(rt: HostRuntime) -> Result<(), Fail> {
+    let alloc = rt.alloc();
+    let g = Geometry::new(SMALL)?;
+    let mut cell = ZoneCell::new(alloc, &g, 1)?;
+    let rows: [(Step, &[u32]); 8] = [
+        (Is(State::Empty, false), &[]),
+        (Write(0, 2, 0), &[0, 1]),
+        (Append(1, 0x11), &[0, 1, 2]),
+        (Reset, &[]),
+        (Open, &[]),
+        (Write(8, 1, 0x22), &[8]),
+        (Flush(7), &[8]),
+        (Reset, &[]),
+    ];
+    for (step, marks) in rows {
+        assert_eq!(rt; take(alloc, &mut cell, &g, step)?, DONE, "{step:?}");
+        assert!(rt; has_marked(&cell, marks), "after {step:?}");
+    }
     Ok(())
 }

@@ -1,7 +1,8 @@
 use Rattle.std.proofs.Common.{◌≡◌, ◌+◌, ◌*◌, ◌-◌, ap, sym, ◌∙◌, arith}
 use Rattle.std.proofs.Math.Nat.{add-mul}
 use Rattle.zone_cell.specs.Cells.{Cell}
-use Rattle.zone_cell.proofs.Views.{marks_of, run_stands}
+use Rattle.zrwa_window.specs.Marks.{holes}
+use Rattle.zone_cell.proofs.Views.{marks_of, marks_are, run_stands}
 use Rattle.zone_cell.proofs.cell.ZoneCell.run.Goals as goal
 
 pub place-requires : goal.place-requires
@@ -18,3 +19,12 @@ returns-clause-bytes c =
     let size : c.place-2.result - c.place.result ≡ c.from.result * c.self.inside.block_len = omega (arith, add-mul c.args.from c.from.result c.self.inside.block_len) in
     let none : c.holes-holes.result ≡ 0 = omega arith in
     rw (size, at, c.deref.ensures.value, ← c.from.ensures) (run_stands c.self.inside c.args.self.now c.args.from c.from.result c.self.view_is (omega arith) (sym c.holes-holes.ensures ∙ none))
+
+pub returns-then-end-from-clause-whole : goal.returns-then-end-from-clause-whole
+returns-then-end-from-clause-whole c = λ within none. absurd (omega (arith, within, marks_of c.self.inside c.args.self.now c.self.view_is))
+
+pub returns-then-holes-gt0-clause-whole : goal.returns-then-holes-gt0-clause-whole
+returns-then-holes-gt0-clause-whole c = λ within none.
+    let unmarked : holes c.self.inside.written c.args.from (c.args.from + c.args.count) ≡ 0 = rw (marks_are c.self.inside c.args.self.now c.self.view_is) none in
+    let found : c.holes-holes.result ≡ 0 = c.holes-holes.ensures ∙ rw c.from.ensures unmarked in
+    absurd (omega (arith, found))
