@@ -29,3 +29,10 @@ pub mod Examples
 pub mod NoticeExamples
 pub mod EntryExamples
 pub mod MoreNotices
+pub mod TextExamples
+pub mod MoreActs
+pub mod RefusalExamples
+pub mod ZoneExamples
+pub mod EventExamples
+pub mod ReportExamples
+pub mod SessionExamples

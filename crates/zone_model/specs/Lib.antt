@@ -10,3 +10,8 @@ pub mod Entries
 pub mod Sessions
 pub mod Reach
 pub mod Laws
+pub mod Texts
+pub mod Showing
+pub mod Summaries
+pub mod Generating
+pub mod Scripts
