@@ -1,5 +1,5 @@
 -- The blocks of a cell after a write.
-use Rattle.std.proofs.Common.{◌≡◌, ℕ, ◌+◌, ◌-◌, ◌*◌, ◌/◌, ◌<◌, ◌≤◌, false, cond, List, Option, Some, None, length, get_or, arith, inl, inr}
+use Rattle.std.proofs.Common.{◌≡◌, ℕ, ◌+◌, ◌-◌, ◌*◌, ◌/◌, ◌<◌, ◌≤◌, false, cond, List, Option, Some, None, length, get_or, sym, arith, inl, inr}
 use Rattle.std.specs.Prelude.{◌&&◌, nat_le, nat_lt}
 use Rattle.std.proofs.lemmas.Bool.{cases_lt}
 use Rattle.std.proofs.lemmas.Bool.Decides.{nat_tests}
@@ -7,11 +7,17 @@ use Rattle.std.proofs.lemmas.List.{get_or_past}
 use Rattle.std.proofs.lemmas.List.FromFn.{get_or-map-range_with_len, length-map-range_with_len}
 use Rattle.std.proofs.Math.Nat.{mul-div_cancel}
 use Rattle.zone_state.specs.Blocks.{block_at}
-use Rattle.zone_cell.specs.Cells.{with_blocks}
+use Rattle.zone_cell.specs.Cells.{with_blocks, IsBlocks}
 
 -- the number of whole blocks
 pub whole_blocks : (len blocks n : ℕ) → 1 ≤ len → n ≡ blocks * len → n / len ≡ blocks
 whole_blocks len blocks n some e = let positive : 0 < len = omega arith in rw e (mul-div_cancel blocks positive)
+
+-- whole blocks of host data
+pub whole_payload : (len blocks : ℕ) (payload : List ℕ) → 1 ≤ len → 1 ≤ blocks → length payload ≡ blocks * len → IsBlocks len payload
+whole_payload len blocks payload some one e =
+    let count = whole_blocks len blocks (length payload) some e in
+    record { some = rw count one; whole = rw count (sym e) }
 
 past : (from blocks b : ℕ) → from + blocks ≤ b → (nat_le from b && nat_lt b (from + blocks)) ≡ false
 past from blocks b h = grind (arith, nat_tests)

@@ -1,14 +1,15 @@
 -- A drive to which nothing was done.
-use Rattle.std.proofs.Common.{◌≡◌, ℕ, ◌<◌, List, [], None, Option, get_or, refl, sym, arith, inl, inr}
+use Rattle.std.proofs.Common.{◌≡◌, ℕ, ◌<◌, false, List, [], None, Option, get_or, refl, sym, arith, inl, inr}
 use Rattle.std.specs.Prelude.{replicate}
 use Rattle.std.proofs.lemmas.Bool.{cases_lt}
 use Rattle.std.proofs.lemmas.List.{get_or_past, length-replicate, get_or-replicate}
 use Rattle.zns_types.specs.declared.fields.GeometryFields.{GeometryFields}
 use Rattle.zone_cell.specs.Cells.{Cell, fresh}
-use Rattle.zone_model.specs.Zones.{state, pointer_after, window, block}
+use Rattle.zone_model.specs.Zones.{state, pointer_after, window, block, active, opened, windows, counts}
+use Rattle.zone_model.proofs.Ranges.{count-none}
 use Rattle.zone_model.proofs.Histories.{acts_on-none, entries_on-none}
 use Rattle.solo_drive.specs.declared.tally.Tally.{Tally}
-use Rattle.solo_drive.specs.Standing.{IsUnlimited, CellStands, CellsStand, TalliesStand}
+use Rattle.solo_drive.specs.Standing.{CellStands, CellsStand, TalliesStand}
 use Rattle.solo_drive.specs.Serving.{AreFresh}
 
 abbrev no_bytes : Option (List ℕ)
@@ -34,12 +35,16 @@ fresh_cell g z lt = record {
   blocks = no_block g.capacity;
 }
 
-pub fresh_stands : (g : GeometryFields) (cells : List Cell) → IsUnlimited g → AreFresh g cells → CellsStand g [] cells
-fresh_stands g cells u f = record {
-  plain = record { unlimited = u; places = tt };
+pub fresh_stands : (g : GeometryFields) (cells : List Cell) → AreFresh g cells → CellsStand g [] cells
+fresh_stands g cells f = record {
   len = f.len;
   each = λ z lt d. rw (f.each z lt d) (fresh_cell g z lt);
 }
+
+-- no zone is in use
+pub none_in_use : (g : GeometryFields) → record { active = 0; opened = 0; windows = 0 } ≡ counts g []
+unfolding state window active opened windows
+none_in_use g = rw (count-none (λ z. false) g.zones (λ z lt. refl)) refl
 
 pub no_tallies : (g : GeometryFields) (tallies : List Tally) → tallies ≡ replicate g.queues (record { acts = 0; entries = 0 }) → TalliesStand g [] tallies
 no_tallies g tallies e = record {

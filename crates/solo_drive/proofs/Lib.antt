@@ -1,10 +1,14 @@
-pub mod Plain
+pub mod Moving
+pub mod Served
 pub mod Rows
 pub mod Refusing
-pub mod Statuses
 pub mod Blocks
 pub mod Stands
-pub mod Step
+pub mod Marks
+pub mod Followed
+pub mod Counting
+pub mod Target
+pub mod WriteSteps
 pub mod Others
 pub mod Tallies
 pub mod Posting
@@ -12,5 +16,4 @@ pub mod Fresh
 pub mod Ranges
 pub mod ReadSteps
 pub mod ShownStates
-pub mod WriteCases
 pub mod Drives

@@ -1,16 +1,16 @@
--- Commands that change no zone: those that are not known.
-use Rattle.std.proofs.Common.{◌≡◌, ℕ, false, true, List, [], refl, ap, Bool, cond}
+-- Commands that change no zone: Reads, and those that are not known.
+use Rattle.std.proofs.Common.{◌≡◌, ℕ, Bool, true, false, cond, List, [], Option, None, refl}
+use Rattle.std.specs.Prelude.{◌&&◌}
 use Rattle.zns_types.specs.declared.fields.GeometryFields.{GeometryFields}
 use Rattle.zns_types.specs.Statuses.{is_success, invalid_opcode}
 use Rattle.sqe_codec.specs.declared.cmd.Cmd.{Cmd}
 use Rattle.sqe_codec.specs.declared.cmd.Cmd.TheVariants as cmd
-use Rattle.zone_cell.specs.Cells.{Cell}
+use Rattle.zone_state.specs.declared.action.Action.{Action}
 use Rattle.zone_model.specs.declared.act.Act.{Act}
 use Rattle.zone_model.specs.Places.{Place, command_of}
-use Rattle.zone_model.specs.Answers.{status, and_then}
+use Rattle.zone_model.specs.Answers.{status, evicted, rows_of, zone_move, first_refusal, at_open_limit, evictable}
 use Rattle.zone_model.specs.Replies.{reply_bytes}
-use Rattle.solo_drive.specs.Standing.{is_served, IsServed, CellsStand}
-use Rattle.solo_drive.proofs.Stands.{refused}
+use Rattle.solo_drive.specs.Standing.{is_served, IsServed}
 
 -- what is served and is neither a Write nor a Read is not known
 unknown_of : (c : Cmd) → is_served c ≡ true → ((nsid slba blocks : ℕ) → c ≡ cmd.Write nsid slba blocks → ⊥) → ((nsid slba blocks : ℕ) → c ≡ cmd.Read nsid slba blocks → ⊥) → (n : ℕ) × (c ≡ cmd.Unknown n)
@@ -19,12 +19,10 @@ unknown_of (cmd.Read nsid slba blocks) e no_write no_read = absurd (no_read nsid
 unknown_of (cmd.Unknown n) e no_write no_read = (n, refl)
 unknown_of _ e no_write no_read = absurd cc
 
-pub unknown : (g : GeometryFields) (h : List Place) (a : Act) → IsServed a → ((nsid slba blocks : ℕ) → command_of a ≡ cmd.Write nsid slba blocks → ⊥) → ((nsid slba blocks : ℕ) → command_of a ≡ cmd.Read nsid slba blocks → ⊥) → status g h a ≡ invalid_opcode
+pub unknown : (g : GeometryFields) (h : List Place) (a : Act) → IsServed a → ((nsid slba blocks : ℕ) → command_of a ≡ cmd.Write nsid slba blocks → ⊥) → ((nsid slba blocks : ℕ) → command_of a ≡ cmd.Read nsid slba blocks → ⊥)
+    → status g h a ≡ invalid_opcode
 unfolding status
 unknown g h a served no_write no_read = let is = unknown_of (command_of a) served no_write no_read in rw is.1 refl
-
-pub unknown_stands : (g : GeometryFields) (h : List Place) (a : Act) (cells : List Cell) → IsServed a → status g h a ≡ invalid_opcode → CellsStand g h cells → CellsStand g (and_then g h a) cells
-unknown_stands g h a cells served is s = refused g h a cells served (ap is_success is) s
 
 either_none : (b : Bool) (bytes : List ℕ) → bytes ≡ [] → cond b bytes [] ≡ []
 either_none true bytes e = e
@@ -39,3 +37,25 @@ write_reply g h a nsid slba blocks e = either_none (is_success (status g h a)) _
 pub refused_reply : (g : GeometryFields) (h : List Place) (a : Act) → is_success (status g h a) ≡ false → reply_bytes g h a ≡ []
 unfolding reply_bytes
 refused_reply g h a e = rw e refl
+
+-- a Read needs no resource, so it moves no zone
+no_eviction : (b c : Bool) (o : Option ℕ) → cond (b && false && c) o None ≡ None
+no_eviction true c o = refl
+no_eviction false c o = refl
+
+read_evicts : (g : GeometryFields) (h : List Place) (a : Act) (nsid slba blocks : ℕ) → command_of a ≡ cmd.Read nsid slba blocks → evicted g h a ≡ None
+unfolding evicted
+read_evicts g h a nsid slba blocks e =
+    let r = rows_of g h (cmd.Read nsid slba blocks) in
+    rw e (no_eviction (is_success (first_refusal r.before)) (at_open_limit g h) (evictable g h r.target))
+
+abbrev no_action : Option Action
+no_action = None
+
+pub read_no_move : (g : GeometryFields) (h : List Place) (a : Act) (nsid slba blocks : ℕ) → command_of a ≡ cmd.Read nsid slba blocks → (z : ℕ) → zone_move g h a z ≡ None
+unfolding zone_move
+read_no_move g h a nsid slba blocks e z = rw (read_evicts g h a nsid slba blocks e, e) (either (is_success (status g h a)))
+  where
+    either : (b : Bool) → cond b no_action None ≡ None
+    either true = refl
+    either false = refl

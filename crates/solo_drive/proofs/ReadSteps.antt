@@ -1,5 +1,5 @@
 -- One Read: its code is its status, its bytes are what it reads there, and no cell changes.
-use Rattle.std.proofs.Common.{◌≡◌, ℕ, ◌+◌, ◌*◌, ◌-◌, ◌<◌, ◌≤◌, Bool, true, false, cond, List, [], ◌∷◌, ◌++◌, Option, Some, None, length, get_or, drop, refl, sym, ap, ◌∙◌, arith, length-append, length-drop}
+use Rattle.std.proofs.Common.{◌≡◌, ℕ, ◌+◌, ◌*◌, ◌-◌, ◌<◌, ◌≤◌, true, false, List, [], ◌∷◌, ◌++◌, Option, Some, None, length, get_or, drop, refl, sym, ap, ◌∙◌, arith, length-append, length-drop}
 use Rattle.std.specs.Prelude.{unwrap_or, nat_lt, ◌&&◌, ◌==◌, ◌%◌, not}
 use Rattle.std.proofs.lemmas.Nat.{div_below}
 use Rattle.std.proofs.lemmas.Bool.{ltb-false, le-ltb}
@@ -14,22 +14,21 @@ use Rattle.zns_types.proofs.RowLemmas.{first_holding-append_idle, first_holding-
 use Rattle.sqe_codec.specs.declared.cmd.Cmd.TheVariants as cmd
 use Rattle.sqe_codec.specs.Commands.{reply_len}
 use Rattle.zone_state.specs.Blocks.{seen_block}
-use Rattle.zone_state.specs.declared.action.Action.{Action}
 use Rattle.zone_cell.specs.Cells.{Cell, fresh, bytes_at}
 use Rattle.zone_model.specs.declared.act.Act.{Act}
 use Rattle.zone_model.specs.Places.{Place, command_of}
 use Rattle.zone_model.specs.Zones.{state, seen}
 use Rattle.zone_model.specs.Refusals.{only, write_front, read_rows, zones_between, last_zone}
-use Rattle.zone_model.specs.Answers.{status, zone_move, and_then, no_open_left, first_refusal}
+use Rattle.zone_model.specs.Answers.{status, answered, no_open_left, first_refusal}
 use Rattle.zone_model.specs.Replies.{reply_bytes, blocks_read}
 use Rattle.std.specs.List.{list_any}
-use Rattle.solo_drive.specs.Standing.{IsServed, IsUnlimited, CellsStand}
+use Rattle.zone_limits.specs.declared.limits.Limits.{Limits}
+use Rattle.solo_drive.specs.Standing.{CellsStand, PartsStand}
 use Rattle.solo_drive.specs.Reading.{cell_at, state_in, block_in, blocks_in, ReadServed}
 use Rattle.solo_drive.proofs.Ranges.{any_same, pieces_same}
 use Rattle.solo_drive.proofs.Refusing.{refused_fails}
-use Rattle.solo_drive.proofs.Plain.{evicted-none}
-use Rattle.solo_drive.proofs.Stands.{idle}
-use Rattle.solo_drive.proofs.Others.{refused_reply}
+use Rattle.solo_drive.proofs.Target.{idle}
+use Rattle.solo_drive.proofs.Others.{refused_reply, read_no_move}
 
 -- no resource is needed
 read_status : (g : GeometryFields) (h : List Place) (a : Act) (nsid slba blocks : ℕ) → command_of a ≡ cmd.Read nsid slba blocks → status g h a ≡ first_refusal (read_rows g (state g h) nsid slba blocks)
@@ -38,17 +37,6 @@ read_status g h a nsid slba blocks e =
     let rows = read_rows g (state g h) nsid slba blocks in
     let idle : first_holding (no_open_left g h (only rows) ∷ []) ≡ None = refl in
     rw e (ap (λ (o : Option Status). unwrap_or o success) (first_holding-append_idle rows (no_open_left g h (only rows) ∷ []) idle))
-
-abbrev no_action : Option Action
-no_action = None
-
-read_no_move : (g : GeometryFields) (h : List Place) (a : Act) (nsid slba blocks : ℕ) → IsUnlimited g → command_of a ≡ cmd.Read nsid slba blocks → (z : ℕ) → zone_move g h a z ≡ None
-unfolding zone_move
-read_no_move g h a nsid slba blocks u e z = rw (evicted-none g h a u, e) (either (is_success (status g h a)))
-  where
-    either : (b : Bool) → cond b no_action None ≡ None
-    either true = refl
-    either false = refl
 
 -- the rows behind those that no zone decides
 abbrev later_rows : GeometryFields → (ℕ → State) → ℕ → ℕ → List (Row Status)
@@ -89,24 +77,23 @@ blocks_same : (g : GeometryFields) (h : List Place) (cells : List Cell) (slba bl
 blocks_same g h cells slba blocks valid s within = pieces_same _ _ slba blocks (λ lba low high. block_same g h cells valid s lba (omega arith))
 
 -- what is known before the step
-pub record Before (g : GeometryFields) (h : List Place) (a : Act) (nsid slba blocks : ℕ) (cells : List Cell) (old new : List ℕ) (code : Status) (len : ℕ) : Type 0 where
+pub record Before (g : GeometryFields) (acts : List Act) (a : Act) (nsid slba blocks : ℕ) (cells : List Cell) (n : Limits) (old new : List ℕ) (code : Status) (len : ℕ) : Type 0 where
   pub valid : IsGeometry g
-  pub served : IsServed a
   pub command : command_of a ≡ cmd.Read nsid slba blocks
   pub some : 1 ≤ blocks
   pub room : reply_len g (command_of a) ≤ length old
   pub size : length new ≡ length old
   pub done : ReadServed g cells nsid slba blocks old new code len
-  pub stand : CellsStand g h cells
+  pub stand : PartsStand g acts cells n
 
-pub record After (g : GeometryFields) (h : List Place) (a : Act) (cells : List Cell) (old new : List ℕ) (code : Status) (len : ℕ) : Type 0 where
-  pub status : code ≡ status g h a
-  pub count : len ≡ length (reply_bytes g h a)
-  pub read : new ≡ reply_bytes g h a ++ drop len old
-  pub stand : CellsStand g (and_then g h a) cells
+pub record After (g : GeometryFields) (acts : List Act) (a : Act) (cells : List Cell) (n : Limits) (old new : List ℕ) (code : Status) (len : ℕ) : Type 0 where
+  pub status : code ≡ status g (answered g acts) a
+  pub count : len ≡ length (reply_bytes g (answered g acts) a)
+  pub read : new ≡ reply_bytes g (answered g acts) a ++ drop len old
+  pub stand : PartsStand g (acts ++ a ∷ []) cells n
 
-stands_on : (g : GeometryFields) (h : List Place) (a : Act) (nsid slba blocks : ℕ) (cells : List Cell) → IsServed a → command_of a ≡ cmd.Read nsid slba blocks → CellsStand g h cells → CellsStand g (and_then g h a) cells
-stands_on g h a nsid slba blocks cells served e s = idle g h a cells served (read_no_move g h a nsid slba blocks s.plain.unlimited e) s
+stands_on : (g : GeometryFields) (acts : List Act) (a : Act) (nsid slba blocks : ℕ) (cells : List Cell) (n : Limits) → command_of a ≡ cmd.Read nsid slba blocks → PartsStand g acts cells n → PartsStand g (acts ++ a ∷ []) cells n
+stands_on g acts a nsid slba blocks cells n e s = idle g acts a cells n (read_no_move g (answered g acts) a nsid slba blocks e) s
 
 reply_fits : (g : GeometryFields) (nsid slba blocks room : ℕ) → blocks * block_len g ≤ greatest_transfer g → reply_len g (cmd.Read nsid slba blocks) ≤ room → blocks * block_len g ≤ room
 reply_fits g nsid slba blocks room short h = let is : nat_lt (greatest_transfer g) (blocks * block_len g) ≡ false = le-ltb _ _ short in rw is at h
@@ -115,11 +102,12 @@ success_reply : (g : GeometryFields) (h : List Place) (a : Act) (nsid slba block
 unfolding reply_bytes
 success_reply g h a nsid slba blocks e holds = rw (holds, e) refl
 
-step_by : (g : GeometryFields) (h : List Place) (a : Act) (nsid slba blocks : ℕ) (cells : List Cell) (old new : List ℕ) (code : Status) (len : ℕ) → Before g h a nsid slba blocks cells old new code len
-    → (o : Option Status) → first_holding (read_rows g (state_in g cells) nsid slba blocks) ≡ o → After g h a cells old new code len
-step_by g h a nsid slba blocks cells old new code len b (Some s) e =
+step_by : (g : GeometryFields) (acts : List Act) (a : Act) (nsid slba blocks : ℕ) (cells : List Cell) (n : Limits) (old new : List ℕ) (code : Status) (len : ℕ) → Before g acts a nsid slba blocks cells n old new code len
+    → (o : Option Status) → first_holding (read_rows g (state_in g cells) nsid slba blocks) ≡ o → After g acts a cells n old new code len
+step_by g acts a nsid slba blocks cells n old new code len b (Some s) e =
+    let h = answered g acts in
     let rows = read_rows g (state g h) nsid slba blocks in
-    let same : first_holding rows ≡ Some s = sym (rows_same g h cells nsid slba blocks b.valid b.stand b.some _ refl) ∙ e in
+    let same : first_holding rows ≡ Some s = sym (rows_same g h cells nsid slba blocks b.valid b.stand.zones b.some _ refl) ∙ e in
     let is : status g h a ≡ s = read_status g h a nsid slba blocks b.command ∙ ap (λ (o : Option Status). unwrap_or o success) same in
     let fails : is_success (status g h a) ≡ false = ap is_success is ∙ refused_fails rows s refl same in
     let w = b.done.refused s e in
@@ -128,29 +116,30 @@ step_by g h a nsid slba blocks cells old new code len b (Some s) e =
       status = w.0 ∙ sym is;
       count = w.1 ∙ sym (ap length nothing);
       read = rw (w.1, nothing) w.2;
-      stand = stands_on g h a nsid slba blocks cells b.served b.command b.stand;
+      stand = stands_on g acts a nsid slba blocks cells n b.command b.stand;
     }
-step_by g h a nsid slba blocks cells old new code len b None e =
+step_by g acts a nsid slba blocks cells n old new code len b None e =
+    let h = answered g acts in
     let rows = read_rows g (state g h) nsid slba blocks in
-    let same : first_holding rows ≡ None = sym (rows_same g h cells nsid slba blocks b.valid b.stand b.some _ refl) ∙ e in
+    let same : first_holding rows ≡ None = sym (rows_same g h cells nsid slba blocks b.valid b.stand.zones b.some _ refl) ∙ e in
     let is : status g h a ≡ success = read_status g h a nsid slba blocks b.command ∙ ap (λ (o : Option Status). unwrap_or o success) same in
     let fails = none_holds rows same in
     let w = b.done.done e in
     let within : slba + blocks ≤ all_blocks g = ltb-false _ _ fails.1.1.0 in
     let fits : blocks * block_len g ≤ length old = reply_fits g nsid slba blocks (length old) (ltb-false _ _ fails.1.0) (rw b.command at b.room) in
-    let bytes : reply_bytes g h a ≡ blocks_in g cells slba blocks = success_reply g h a nsid slba blocks b.command (ap is_success is) ∙ sym (blocks_same g h cells slba blocks b.valid b.stand within) in
+    let bytes : reply_bytes g h a ≡ blocks_in g cells slba blocks = success_reply g h a nsid slba blocks b.command (ap is_success is) ∙ sym (blocks_same g h cells slba blocks b.valid b.stand.zones within) in
     let whole : length (blocks_in g cells slba blocks) ≡ blocks * block_len g =
     omega (arith, fits, b.size, ap length w.2, length-append (blocks_in g cells slba blocks) (drop (blocks * block_len g) old), length-drop (blocks * block_len g) old) in
     record {
       status = w.0 ∙ sym is;
       count = w.1 ∙ sym (ap length bytes ∙ whole);
       read = rw (w.1, bytes) w.2;
-      stand = stands_on g h a nsid slba blocks cells b.served b.command b.stand;
+      stand = stands_on g acts a nsid slba blocks cells n b.command b.stand;
     }
 
 -- One Read.
-pub step : (g : GeometryFields) (h : List Place) (a : Act) (nsid slba blocks : ℕ) (cells : List Cell) (old new : List ℕ) (code : Status) (len : ℕ) → Before g h a nsid slba blocks cells old new code len → After g h a cells old new code len
-step g h a nsid slba blocks cells old new code len b = step_by g h a nsid slba blocks cells old new code len b _ refl
+pub step : (g : GeometryFields) (acts : List Act) (a : Act) (nsid slba blocks : ℕ) (cells : List Cell) (n : Limits) (old new : List ℕ) (code : Status) (len : ℕ) → Before g acts a nsid slba blocks cells n old new code len → After g acts a cells n old new code len
+step g acts a nsid slba blocks cells n old new code len b = step_by g acts a nsid slba blocks cells n old new code len b _ refl
 
 -- ---- the code's words
 

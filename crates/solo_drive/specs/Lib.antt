@@ -2,3 +2,4 @@ pub mod Drives
 pub mod Standing
 pub mod Serving
 pub mod Reading
+pub mod Following

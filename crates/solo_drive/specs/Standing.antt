@@ -1,17 +1,16 @@
 -- What the parts of a drive stand for: a history of acts.
-use Rattle.std.specs.Prelude.{◌≡◌, ℕ, ◌^◌, ◌<◌, Bool, true, false, ◌&&◌, List, length, slice_index_or, Option, Some, None}
-use Rattle.std.specs.List.{AllByRecursion}
+use Rattle.std.specs.Prelude.{◌≡◌, ℕ, ◌^◌, ◌<◌, Bool, true, false, ◌&&◌, List, [], length, slice_index_or, None}
 use Rattle.zns_types.specs.declared.fields.GeometryFields.{GeometryFields}
 use Rattle.zns_types.specs.States.{is_active}
 use Rattle.sqe_codec.specs.declared.cmd.Cmd.{Cmd}
 use Rattle.sqe_codec.specs.declared.cmd.Cmd.TheVariants as cmd
-use Rattle.zone_state.specs.declared.action.Action.{Action}
-use Rattle.zone_state.specs.declared.action.Action.TheVariants as action
 use Rattle.zone_state.specs.Shown.{is_writable}
 use Rattle.zone_cell.specs.Cells.{Cell, IsOf}
 use Rattle.zone_model.specs.declared.act.Act.{Act}
 use Rattle.zone_model.specs.Places.{Place, command_of}
-use Rattle.zone_model.specs.Zones.{state, pointer, window, block, had}
+use Rattle.zone_limits.specs.declared.limits.Limits.{Limits}
+use Rattle.zone_model.specs.Zones.{state, pointer, window, block, had, counts}
+use Rattle.zone_model.specs.Notices.{changed}
 use Rattle.zone_model.specs.Answers.{answered}
 use Rattle.zone_model.specs.Entries.{acts_on, entries_on}
 use Rattle.solo_drive.specs.declared.tally.Tally.{Tally}
@@ -27,29 +26,6 @@ is_served _ = false
 
 abbrev pub IsServed : Act → Type 0
 IsServed a = is_served (command_of a) ≡ true
-
--- no limit on active and opened zones, and no random write areas
-pub record IsUnlimited (g : GeometryFields) : Type 0 where
-  pub active : g.active_limit ≡ 0
-  pub opened : g.open_limit ≡ 0
-  pub windows : g.windows ≡ 0
-
--- written, or left alone
-abbrev pub IsPlainMove : Option Action → Type 0
-IsPlainMove None = Unit {0}
-IsPlainMove (Some action.Write) = Unit {0}
-IsPlainMove _ = ⊥
-
--- the place of such a command
-pub record IsPlainPlace (p : Place) : Type 0 where
-  pub act : IsServed p.act
-  pub moves : (z : ℕ) → IsPlainMove (p.zone_move z)
-  pub fired : p.fired ≡ None
-
--- a history of such commands alone
-pub record IsPlain (g : GeometryFields) (h : List Place) : Type 0 where
-  pub unlimited : IsUnlimited g
-  pub places : AllByRecursion IsPlainPlace h
 
 -- ---- zones
 
@@ -67,9 +43,13 @@ pub record CellStands (g : GeometryFields) (h : List Place) (z : ℕ) (c : Cell)
 
 -- the cells are what a history makes of all zones
 pub record CellsStand (g : GeometryFields) (h : List Place) (cells : List Cell) : Type 0 where
-  pub plain : IsPlain g h
   pub len : length cells ≡ g.zones
   pub each : (z : ℕ) → z < g.zones → (d : Cell) → CellStands g h z (slice_index_or cells z d)
+
+-- cells and counts are what a history of acts makes of them
+pub record PartsStand (g : GeometryFields) (acts : List Act) (cells : List Cell) (n : Limits) : Type 0 where
+  pub zones : CellsStand g (answered g acts) cells
+  pub counts : n ≡ counts g (answered g acts)
 
 -- ---- queues
 
@@ -81,8 +61,9 @@ pub record TalliesStand (g : GeometryFields) (h : List Place) (tallies : List Ta
 
 -- ---- the drive
 
--- cells and tallies are those of a drive after these acts
-pub record Stands (g : GeometryFields) (acts : List Act) (cells : List Cell) (tallies : List Tally) : Type 0 where
-  pub zones : CellsStand g (answered g acts) cells
+-- the parts are those of a drive after these acts, none of which changed a zone by itself
+pub record Stands (g : GeometryFields) (acts : List Act) (cells : List Cell) (n : Limits) (tallies : List Tally) : Type 0 where
+  pub zones : PartsStand g acts cells n
   pub queues : TalliesStand g (answered g acts) tallies
+  pub unchanged : changed g (answered g acts) ≡ []
   pub small : length acts < 2 ^ 32

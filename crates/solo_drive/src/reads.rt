@@ -4,7 +4,7 @@ ghost use Rattle.zns_types.specs.States.{is_offline};
 ghost use Rattle.zns_types.specs.Geometry.{block_len, all_blocks};
 ghost use Rattle.zns_types.specs.Rows.{first_holding};
 ghost use Rattle.zone_model.specs.Refusals.{read_rows, zones_between};
-ghost use Rattle.solo_drive.specs.Serving.{IsPlainCell};
+ghost use Rattle.zone_cell.specs.Cells.{IsOf};
 ghost use Rattle.solo_drive.specs.Reading.{state_in, blocks_in, ReadServed, HasRoom};
 
 use crate::front::check_front;
@@ -63,7 +63,7 @@ fn check_read(cells: &[ZoneCell], g: &Geometry, nsid: u32, slba: u64, blocks: u3
 // Fills `out` with the bytes of blocks.
 fn copy_blocks(cells: &[ZoneCell], g: &Geometry, slba: u64, blocks: u32, out: &mut [u8])
     requires all { length cells.now ≡ g.now.fields.zones }
-    requires plain { All (IsPlainCell g.now.fields) cells.now }
+    requires of { All (IsOf g.now.fields) cells.now }
     requires within { slba + blocks ≤ all_blocks g.now.fields }
     requires room { length out.old ≡ blocks * block_len g.now.fields }
     ensures { out.new ≡ blocks_in g.now.fields cells.now slba blocks }
@@ -89,7 +89,7 @@ pub fn read_blocks(
     requires some { 1 ≤ blocks }
     requires blocks { blocks ≤ 65536 }
     requires all { length cells.now ≡ g.now.fields.zones }
-    requires plain { All (IsPlainCell g.now.fields) cells.now }
+    requires of { All (IsOf g.now.fields) cells.now }
     requires room { HasRoom g.now.fields (length out.old) (blocks * block_len g.now.fields) }
     ensures { ReadServed g.now.fields cells.now nsid slba blocks out.old out.new result.code result.len }
 {

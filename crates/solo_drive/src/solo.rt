@@ -5,8 +5,10 @@ ghost use Rattle.zone_model.specs.Entries.{posted};
 ghost use Rattle.zone_model.specs.Replies.{reply_bytes, descriptors};
 ghost use Rattle.zone_model.specs.Reports.{bytes_of_all, changed_page};
 ghost use Rattle.zone_model.specs.Notices.{changed};
-ghost use Rattle.solo_drive.specs.Standing.{IsServed, IsUnlimited};
-ghost use Rattle.solo_drive.specs.Serving.{HasLengths, AreFresh, IsPlainCell};
+ghost use Rattle.zone_model.specs.Zones.{counts, pointer};
+ghost use Rattle.zone_cell.specs.Cells.{IsOf};
+ghost use Rattle.solo_drive.specs.Standing.{IsServed};
+ghost use Rattle.solo_drive.specs.Serving.{HasLengths, AreFresh};
 ghost use Rattle.solo_drive.specs.Reading.{descriptor_in};
 ghost use Rattle.solo_drive.specs.Drives.{Drive};
 
@@ -21,6 +23,7 @@ use zns_io::{Bytes, NoMemory};
 use zns_types::Geometry;
 use zone_cell::ZoneCell;
 use zone_descriptor::write;
+use zone_limits::Limits;
 use zone_model::{Act, Journal};
 
 /// A drive that serves one command at a time.
@@ -28,6 +31,7 @@ use zone_model::{Act, Journal};
 pub struct Solo {
     geometry: Geometry,
     cells: Vec<ZoneCell>,
+    limits: Limits,
     tallies: Vec<Tally>,
     journal: Journal,
 }
@@ -40,13 +44,13 @@ impl Model for Solo {
 
     ghost view = { λ s. record { geometry = s.geometry.fields; acts = s.journal.acts; spare = s.journal.spare } };
 
-    ghost invariant = { λ s. Stands s.geometry.fields s.journal.acts s.cells.items s.tallies.items };
+    ghost invariant = { λ s. Stands s.geometry.fields s.journal.acts s.cells.items s.limits s.tallies.items };
 }
 
 // Writes the descriptors of all zones, rising.
 fn write_descriptors(cells: &[ZoneCell], g: &Geometry, out: &mut [u8])
     requires all { length cells.now ≡ g.now.fields.zones }
-    requires plain { All (IsPlainCell g.now.fields) cells.now }
+    requires of { All (IsOf g.now.fields) cells.now }
     requires room { length out.old ≡ 64 * g.now.fields.zones }
     ensures { out.new ≡ flat_map (descriptor_in g.now.fields cells.now) (range_with_len 0 g.now.fields.zones) }
 {
@@ -71,7 +75,6 @@ fn fresh_cells(alloc: Global, g: &Geometry) -> Result<Vec<ZoneCell>, NoMemory>
 impl Solo {
     /// The drive of a geometry to which nothing was done, with room for so many acts.
     pub fn new(alloc: Global, g: Geometry, room: u32) -> Result<Solo, NoMemory>
-        requires unlimited { IsUnlimited g.fields }
         requires room { room ≤ 262144 }
         ensures { IfOk result (λ s. s ≡ record { geometry = g.fields; acts = []; spare = room }) }
     {
@@ -85,6 +88,11 @@ impl Solo {
         Ok(Solo {
             geometry: g,
             cells,
+            limits: Limits {
+                active: 0,
+                opened: 0,
+                windows: 0,
+            },
             tallies,
             journal,
         })
@@ -109,7 +117,7 @@ impl Solo {
             sqe,
             payload,
         };
-        let outcome = serve(&mut self.cells, &self.geometry, &act, out);
+        let outcome = serve(&mut self.cells, &mut self.limits, &self.geometry, &act, out);
         let tally = &mut self.tallies[queue as usize];
         let own = post(tally, &self.geometry, queue, cid(&act.sqe), outcome.code);
         self.journal.push(act);
@@ -141,6 +149,21 @@ impl Solo {
         ensures { result.now.fields ≡ self.now.geometry }
     {
         &self.geometry
+    }
+
+    /// How many zones are active, are opened, and have a random write area.
+    pub fn limits(&self) -> &Limits
+        ensures { result.now ≡ counts self.now.geometry (answered self.now.geometry self.now.acts) }
+    {
+        &self.limits
+    }
+
+    /// A zone's write pointer, in blocks from its start.
+    pub fn pointer(&self, zone: u32) -> u64
+        requires { zone < self.now.geometry.zones }
+        ensures { result ≡ pointer self.now.geometry (answered self.now.geometry self.now.acts) zone }
+    {
+        self.cells[zone as usize].pointer()
     }
 
     /// The descriptors of all zones, rising, 64 bytes each.

@@ -1,7 +1,7 @@
 ghost use Rattle.std.specs.Prelude.{◌≡◌, ◌==◌, true, IsTrue};
 ghost use Rattle.sqe_codec.specs.Commands.{command};
 ghost use Rattle.sqe_codec.specs.Ranges.{IsWritable};
-ghost use Rattle.solo_drive.specs.Standing.{is_served, IsUnlimited};
+ghost use Rattle.solo_drive.specs.Standing.{is_served};
 
 use super::*;
 use byteorder::{ByteOrder, LittleEndian};
@@ -132,9 +132,7 @@ fn first_wrong(alloc: Global, drive: &mut Solo, rows: &[Row]) -> Result<Option<u
     Ok(None)
 }
 
-fn drive_of(alloc: Global, fields: GeometryFields) -> Result<Solo, Fail>
-    requires { IsUnlimited fields }
-{
+fn drive_of(alloc: Global, fields: GeometryFields) -> Result<Solo, Fail> {
     let g = Geometry::new(fields)?;
     Ok(Solo::new(alloc, g, 32)?)
 }
@@ -231,5 +229,63 @@ fn limits_of_transfers_and_queues(rt: HostRuntime) -> Result<(), Fail> {
         (1, get(0, 4), 0x11, DONE, 1, true),
     ];
     assert_eq!(rt; first_wrong(alloc, &mut drive, &rows)?, None);
+    Ok(())
+}
+
+// The states and pointers of all zones.
+fn zones_of(alloc: Global, drive: &Solo) -> Result<Vec<(u8, u64)>, Fail> {
+    let mut zones = Vec::new(alloc);
+    let mut out = vec![in alloc; 0; 64 * drive.geometry().fields().zones as usize]?;
+    drive.descriptors(&mut out);
+    for zone in 0..drive.geometry().fields().zones {
+        zones.push((out[64 * zone as usize + 1] >> 4, drive.pointer(zone)))?;
+    }
+    Ok(zones)
+}
+
+// With three active and two opened zones at most, the third zone that is written closes the first,
+// a fourth is refused, and a closed one that is written again closes the next.
+#[test]
+fn zones_in_use_stay_within_their_limits(rt: HostRuntime) -> Result<(), Fail> {
+    let alloc = rt.alloc();
+    let fields = GeometryFields {
+        active_limit: 3,
+        open_limit: 2,
+        ..PLAIN
+    };
+    let mut drive = drive_of(alloc, fields)?;
+    let too_many = Code { sct: 1, sc: 0xbd };
+    // a Write, its status, then the active and opened zones, and all zones' states and pointers
+    let rows = [
+        (put(0, 1), DONE, (1, 1), [(2, 1), (1, 0), (1, 0), (1, 0)]),
+        (put(64, 1), DONE, (2, 2), [(2, 1), (2, 1), (1, 0), (1, 0)]),
+        (put(128, 1), DONE, (3, 2), [(4, 1), (2, 1), (2, 1), (1, 0)]),
+        (
+            put(192, 1),
+            too_many,
+            (3, 2),
+            [(4, 1), (2, 1), (2, 1), (1, 0)],
+        ),
+        (put(1, 1), DONE, (3, 2), [(2, 2), (4, 1), (2, 1), (1, 0)]),
+        (
+            put(129, 47),
+            DONE,
+            (2, 1),
+            [(2, 2), (4, 1), (14, 48), (1, 0)],
+        ),
+    ];
+    for (i, (cmd, code, used, zones)) in rows.iter().enumerate() {
+        match serve(alloc, &mut drive, 1, *cmd, 0x11)? {
+            None => assert!(rt; false),
+            Some(answer) => assert_eq!(rt; answer.entry.code, *code, "{i}"),
+        }
+        let limits = drive.limits();
+        assert_eq!(rt; (limits.active, limits.opened), *used, "{i}");
+        assert_eq!(rt;
+            zones_of(alloc, &drive)?.as_slice(),
+            zones.as_slice(),
+            "{i}"
+        );
+    }
     Ok(())
 }

@@ -17,7 +17,7 @@ loop-i-preserved c =
     let below : zone_of g lba < length cells = omega (arith, c.zone_of.ensures.exact, c.zone_of.ensures.within, c.requires.all) in
     let cell = c.index-cells-zone_of.result in
     let is : cell ≡ get_or cells (zone_of g lba) cell = rw (← c.zone_of.ensures.exact) c.index-cells-zone_of.is in
-    let plain = c.requires.plain (zone_of g lba) cell below in
-    let own_len : cell.block_len ≡ block_len g = rw (← is) at plain.of.len in
+    let of = c.requires.of (zone_of g lba) cell below in
+    let own_len : cell.block_len ≡ block_len g = rw (← is) at of.len in
     filled_more (block_in g cells) c.args.slba c.loop-i.i len _ c.loop-i.out c.args.out.now c.get.new.out c.loop-i.auto.out (omega (arith, within)) refl c.loop-i.invariant
     (c.get.ensures ∙ one_block g cells lba cell below own_len is)

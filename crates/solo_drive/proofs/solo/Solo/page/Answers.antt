@@ -13,4 +13,4 @@ returns c =
     let h = answered g c.self.inside.journal.acts in
     let zeros = c.fill.ensures.after (λ y e. e) ∙ ap (λ (n : ℕ). replicate n 0) c.requires in
     let P : Drive → Type 0 = λ d. c.fill.new.self ≡ changed_page d.geometry (changed d.geometry (answered d.geometry d.acts)) in
-    subst P c.self.view_is (zeros ∙ no_changes g h c.self.inside.cells.items c.self.invariant.zones)
+    subst P c.self.view_is (zeros ∙ no_changes g h c.self.invariant.unchanged)
