@@ -3,3 +3,4 @@ pub mod FileRules
 pub mod Faults
 pub mod Results
 pub mod Orders
+pub mod ReasonTexts

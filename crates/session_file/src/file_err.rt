@@ -1,6 +1,7 @@
 ghost use Rattle.std.specs.Prelude.{◌≡◌};
 
 use std::alloc::AllocFailed;
+use std::fmt;
 use thiserror::Error;
 use zns_io::NoMemory;
 
@@ -42,6 +43,30 @@ pub enum Reason {
 
     /// A part of the format that isn't built.
     NotBuilt,
+}
+
+impl fmt::Display for Reason {
+    ghost use Rattle.std.specs.Prelude.{Some};
+    ghost use Rattle.session_file.specs.ReasonTexts.{reason_text};
+
+    ghost output = { λ r. Some (reason_text r) };
+
+    fn fmt<W: fmt::Write>(&self, f: &mut fmt::Formatter<W>) -> fmt::Result {
+        f.write_str(match self {
+            Reason::Short => "Short",
+            Reason::Magic => "Magic",
+            Reason::Header => "Header",
+            Reason::Queue => "Queue",
+            Reason::Reserved => "Reserved",
+            Reason::Length => "Length",
+            Reason::Trailing => "Trailing",
+            Reason::HostLine => "HostLine",
+            Reason::ResultMagic => "ResultMagic",
+            Reason::ResultCount => "ResultCount",
+            Reason::ResultOrder => "ResultOrder",
+            Reason::NotBuilt => "NotBuilt",
+        })
+    }
 }
 
 /// What is too large.

@@ -13,13 +13,13 @@ use Rattle.zns_runner.specs.Outcomes.{Streams, Serves, Means, IsComplete}
 use Rattle.zns_runner.specs.Making.{MakesOutput, IsOutput}
 
 -- a run that made no output
-pub ended : (before now : Streams) (s : Status) → now.taken ≡ before.taken → MakesOutput before.left now.left before.source_faults now.source_faults (Err s) → Means before now s
-ended before now status.Ok same e = absurd e
-ended before now status.NoMemory same e = same
-ended before now status.Usage same e = absurd e
-ended before now status.ReadFault same e = (same, e)
-ended before now status.WriteFault same e = absurd e
-ended before now (status.BadFile what offset) same e = (same, e.reason, e.offset_is, e.none)
+pub ended : (before now : Streams) (s : Status) → now.taken ≡ before.taken → now.sink_faults ≡ before.sink_faults → MakesOutput before.left now.left before.source_faults now.source_faults (Err s) → Means before now s
+ended before now status.Ok same calm e = absurd e
+ended before now status.NoMemory same calm e = record { taken = same; calm = calm; read = e }
+ended before now status.Usage same calm e = absurd e
+ended before now status.ReadFault same calm e = (record { taken = same; calm = calm; read = e.0 }, e.1)
+ended before now status.WriteFault same calm e = absurd e
+ended before now (status.BadFile what offset) same calm e = (record { taken = same; calm = calm; read = e.0 }, e.1.reason, e.1.offset_is, e.1.none)
 
 pub not_usage : (before now : Streams) (s : Status) → MakesOutput before.left now.left before.source_faults now.source_faults (Err s) → s ≡ status.Usage → ⊥
 not_usage before now status.Ok e is = e

@@ -3,3 +3,4 @@ pub mod ServedReplies
 pub mod Sizes
 pub mod Ends
 pub mod Results
+pub mod Arguments

@@ -3,3 +3,5 @@ pub mod Serving
 pub mod Outcomes
 pub mod Making
 pub mod Numbers
+pub mod Words
+pub mod Lines

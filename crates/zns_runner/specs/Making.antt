@@ -1,9 +1,9 @@
 -- What the steps of a run make, before anything is written.
-use Rattle.std.specs.Prelude.{◌≡◌, ℕ, List, Option, Some, Result, Ok, Err, ⊤}
+use Rattle.std.specs.Prelude.{◌≡◌, ℕ, ◌+◌, ◌^◌, List, Option, Some, Result, Ok, Err, ⊤}
 use Rattle.zone_model.specs.Sessions.{Recorded, spelling, spells}
 use Rattle.zns_io.specs.declared.bytes.Bytes.{Bytes}
 use Rattle.zns_io.specs.Faults.{Rose}
-use Rattle.zns_io.specs.Reading.{ReadsAll}
+use Rattle.zns_io.specs.Reading.{ReadsAll, ReadsFrontUpTo}
 use Rattle.session_file.specs.declared.file_err.Reason.{Reason}
 use Rattle.session_file.specs.declared.file_err.Reason.TheVariants as reason
 use Rattle.session_file.specs.declared.session.Session.{Session}
@@ -39,8 +39,8 @@ pub record IsOutput (left now : Option (List ℕ)) (bytes : List ℕ) : Type 0 w
 abbrev pub MakesOutput : Option (List ℕ) → Option (List ℕ) → ℕ → ℕ → Result Bytes Status → Type 0
 MakesOutput left now faults faults_now (Ok bytes) = IsOutput left now bytes
 MakesOutput left now faults faults_now (Err status.Ok) = ⊥
-MakesOutput left now faults faults_now (Err status.NoMemory) = ⊤
+MakesOutput left now faults faults_now (Err status.NoMemory) = ReadsFrontUpTo left now (2 ^ 29 + 1)
 MakesOutput left now faults faults_now (Err status.Usage) = ⊥
-MakesOutput left now faults faults_now (Err status.ReadFault) = Rose faults faults_now
+MakesOutput left now faults faults_now (Err status.ReadFault) = ReadsFrontUpTo left now (2 ^ 29 + 1) × Rose faults faults_now
 MakesOutput left now faults faults_now (Err status.WriteFault) = ⊥
-MakesOutput left now faults faults_now (Err (status.BadFile what offset)) = IsNotBuilt left what offset
+MakesOutput left now faults faults_now (Err (status.BadFile what offset)) = ReadsFrontUpTo left now (2 ^ 29 + 1) × IsNotBuilt left what offset

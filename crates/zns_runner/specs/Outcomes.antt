@@ -1,10 +1,10 @@
 -- What each status of the program means.
-use Rattle.std.specs.Prelude.{◌≡◌, ℕ, List, Option, Some, None, ⊤, ◌⊎◌}
+use Rattle.std.specs.Prelude.{◌≡◌, ℕ, ◌+◌, ◌^◌, List, Option, Some, None, ⊤, ◌⊎◌}
 use Rattle.zone_model.specs.Sessions.{Recorded, spelling, spells, merge, own_order}
 use Rattle.zone_model.specs.Laws.{IsKept}
 use Rattle.zns_io.specs.Faults.{Rose}
 use Rattle.zns_io.specs.Told.{Gains}
-use Rattle.zns_io.specs.Reading.{ReadsAll}
+use Rattle.zns_io.specs.Reading.{ReadsAll, ReadsFrontUpTo}
 use Rattle.zns_io.specs.Writing.{GainsPrefix}
 use Rattle.session_file.specs.declared.file_err.Reason.TheVariants as reason
 use Rattle.zns_runner.specs.declared.status.Status.{Status}
@@ -40,9 +40,11 @@ abbrev pub IsNoSession : Option (List ℕ) → Type 0
 IsNoSession None = ⊤
 IsNoSession (Some bytes) = (s : Recorded) → IsBuilt s → spells s bytes → ⊥
 
--- the sink has what it had
-abbrev pub WritesNothing : Streams → Streams → Type 0
-WritesNothing before now = now.taken ≡ before.taken
+-- nothing was asked of the sink, and the source lost at most a front, of one byte more than the longest input
+pub record WritesNothing (before now : Streams) : Type 0 where
+  pub taken : now.taken ≡ before.taken
+  pub calm : now.sink_faults ≡ before.sink_faults
+  pub read : ReadsFrontUpTo before.left now.left (2 ^ 29 + 1)
 
 -- What a status says of a run, by what the source and the sink told before and tell now.
 abbrev pub Means : Streams → Streams → Status → Type 0

@@ -1,13 +1,20 @@
 -- The sessions that `one` serves, and what it writes.
-use Rattle.std.specs.Prelude.{ℕ, ◌≤◌, List, [], ◌∷◌, All, codes}
+use Rattle.std.specs.Prelude.{◌≡◌, ℕ, ◌≤◌, List, [], ◌∷◌, All, codes}
 use Rattle.zone_model.specs.declared.act.Act.{Act}
 use Rattle.zone_model.specs.Sessions.{Recorded, IsSession, result_of, own_order}
-use Rattle.solo_drive.specs.Standing.{IsServed, IsUnlimited}
+use Rattle.zns_types.specs.declared.fields.GeometryFields.{GeometryFields}
+use Rattle.solo_drive.specs.Standing.{IsServed}
 
 -- an act on an I/O queue: a Write, a Read, or an opcode that isn't listed for I/O queues
 pub record IsBuiltAct (a : Act) : Type 0 where
   pub queue : 1 ≤ a.queue
   pub served : IsServed a
+
+-- no limit on active and opened zones, and no random write areas
+pub record IsUnlimited (g : GeometryFields) : Type 0 where
+  pub active : g.active_limit ≡ 0
+  pub opened : g.open_limit ≡ 0
+  pub windows : g.windows ≡ 0
 
 -- a session of such acts, on a drive without limits and random write areas
 pub record IsBuilt (s : Recorded) : Type 0 where

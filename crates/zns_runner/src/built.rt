@@ -1,6 +1,5 @@
 ghost use Rattle.std.specs.Prelude.{◌≡◌, ◌↔◌, IsTrue, All};
-ghost use Rattle.solo_drive.specs.Standing.{IsUnlimited};
-ghost use Rattle.zns_runner.specs.Sessions.{IsBuiltAct};
+ghost use Rattle.zns_runner.specs.Sessions.{IsBuiltAct, IsUnlimited};
 
 use sqe_codec::{Cmd, read};
 use zns_types::Geometry;

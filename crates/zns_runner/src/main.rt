@@ -8,31 +8,19 @@ mod status;
 mod tests;
 mod top;
 mod word;
+mod words;
 
 use crate::status::Status;
 use crate::top::top_plain;
-use crate::word::Word;
 use std::env::Env;
+use std::io;
 use std::io::Write;
 use std::process::ExitCode;
-use std::{env, io};
-use zns_io::{NoMemory, StdSink, StdSource};
-
-// The words behind the program's name. Words that aren't text are none that mean anything.
-fn words(rt: &(impl Env + AllocGlobal)) -> Result<Vec<Word>, NoMemory> {
-    let mut words = Vec::new(rt.alloc());
-    if let Ok(args) = env::args(rt) {
-        for arg in args.skip(1) {
-            let word = Word::of(rt.alloc(), arg.as_str())?;
-            words.push(word)?;
-        }
-    }
-    Ok(words)
-}
+use zns_io::{StdSink, StdSource};
 
 // Serves what the words ask for, and flushes what was written.
 fn run(rt: &(impl Env + AllocGlobal + Input + Print)) -> Status {
-    let words = match words(rt) {
+    let words = match words::words(rt) {
         Ok(words) => words,
         Err(_) => return Status::NoMemory,
     };

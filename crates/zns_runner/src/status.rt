@@ -1,5 +1,6 @@
 ghost use Rattle.std.specs.Prelude.{◌≡◌, IfOk};
 ghost use Rattle.zns_runner.specs.Numbers.{number_of};
+ghost use Rattle.zns_runner.specs.Lines.{line_of};
 
 use session_file::Reason;
 use std::alloc::Global;
@@ -55,13 +56,20 @@ impl Status {
     }
 
     /// The line that is said of it on standard error; empty where all is well.
-    pub fn line(&self, alloc: Global) -> Result<Bytes, NoMemory> {
+    pub fn line(&self, alloc: Global) -> Result<Bytes, NoMemory>
+        ensures { IfOk result (λ line. line ≡ line_of self.now) }
+    {
         let line = format!(in alloc; "{self}")?;
         Ok(Bytes::from_vec(line.into_bytes()))
     }
 }
 
 impl fmt::Display for Status {
+    ghost use Rattle.std.specs.Prelude.{Some};
+    ghost use Rattle.zns_runner.specs.Lines.{line_of};
+
+    ghost output = { λ s. Some (line_of s) };
+
     fn fmt<W: fmt::Write>(&self, f: &mut fmt::Formatter<W>) -> fmt::Result {
         match self {
             Status::Ok => Ok(()),
@@ -75,7 +83,7 @@ impl fmt::Display for Status {
             Status::ReadFault => writeln!(f, "zns_runner: read fault"),
             Status::WriteFault => writeln!(f, "zns_runner: write fault"),
             Status::BadFile { reason, offset } => {
-                writeln!(f, "zns_runner: bad file: {reason:?} at {offset}")
+                writeln!(f, "zns_runner: bad file: {reason} at {offset}")
             }
         }
     }
