@@ -1,0 +1,5 @@
+use Rattle.changed_log.proofs.Marked.{no_marks}
+use Rattle.changed_log.proofs.log.ChangedLog.clear.Goals as goal
+
+pub returns : goal.returns
+returns c = no_marks 4096

@@ -1,0 +1,64 @@
+-- The marks of asynchronous events, and the requests that wait. (NVM Express Base Specification 2.0, 5.2, Asynchronous
+-- Event Request; Zoned Namespace Command Set Specification 1.1, 4.1.4, Zone Descriptor Changed Notices.)
+use Rattle.std.specs.Prelude.{◌≡◌, ℕ, ◌≤◌, Bool, true, false, not, ◌&&◌, nat_le, if◌then◌else◌, List, [], ◌∷◌, ◌++◌, length, Option, None}
+use Rattle.zone_model.specs.Notices.{first_of}
+use Rattle.changed_log.specs.declared.waited.Waited.{Waited}
+use Rattle.changed_log.specs.declared.waited.Waited.TheVariants as waited
+
+-- Whether notices are enabled; whether an event was told since the changed zones were last read and cleared; whether one
+-- is there to be told; and the numbers of the event requests that wait, the oldest first.
+pub record Marks : Type 0 where
+  pub enabled : Bool
+  pub masked : Bool
+  pub pending : Bool
+  pub waiting : List ℕ
+
+-- a drive starts with notices disabled
+abbrev pub at_start : Marks
+at_start = record { enabled = false; masked = false; pending = false; waiting = [] }
+
+-- What holds of the marks at any time: an event is there to be told only where none was told yet and no request waits
+-- for it, and at most four requests wait.
+pub record IsSound (m : Marks) : Type 0 where
+  pub unmasked : m.pending ≡ true → m.masked ≡ false
+  pub unasked : m.pending ≡ true → m.waiting ≡ []
+  pub few : length m.waiting ≤ 4
+
+-- Set Features: bit 27 of the asynchronous event configuration alone (Base Specification 2.0, 5.27.1.8)
+abbrev pub with_enabled : Bool → Marks → Marks
+with_enabled on m = record m { enabled = on }
+
+-- ---- an event request
+
+-- an event that is there to be told completes the request; else it waits, where fewer than four do
+abbrev pub told_to : Marks → Waited
+told_to m = if m.pending then waited.Fired else if nat_le 4 (length m.waiting) then waited.Limit else waited.Kept
+
+abbrev pub after_request : ℕ → Marks → Marks
+after_request cid m =
+    if m.pending then record m { masked = true; pending = false }
+    else if nat_le 4 (length m.waiting) then m
+    else record m { waiting = m.waiting ++ cid ∷ [] }
+
+-- ---- an excursion that succeeded
+
+-- an event of it is told now, or as soon as a request comes
+abbrev pub is_told : Marks → Bool
+is_told m = m.enabled && not m.masked
+
+-- the request that it completes: the oldest that waits
+abbrev pub fired_by : Marks → Option ℕ
+fired_by m = if is_told m then first_of m.waiting else None
+
+-- the event goes to the oldest of the requests; where there is none, it is there to be told
+abbrev pub told : Marks → List ℕ → Marks
+told m [] = record m { pending = true }
+told m (oldest ∷ rest) = record m { masked = true; pending = false; waiting = rest }
+
+abbrev pub after_excursion : Marks → Marks
+after_excursion m = if is_told m then told m m.waiting else m
+
+-- ---- a read of the changed zones that clears them
+
+abbrev pub after_read : Marks → Marks
+after_read m = record m { masked = false; pending = false }
