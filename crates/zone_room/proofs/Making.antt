@@ -130,7 +130,7 @@ made g cells n t need sound lt unopened none = by_evicts (evicts g n need) refl
         let used : is_opened c.state ≡ true = ap is_opened (implicit c.state at.opened) in
         let l : Left g n (closed_counts g (Some y) cells n) = record { active = gives.active; opened = gives.opened; windows = gives.windows; some = counted.opened.used used; within = counted.within } in
         let off = unopened (and_parts need.opened (at_limit g.open_limit n.opened) e).0 in
-        record { sound = record { of = own.of; window = own.window; counted = left_counted g n _ (use_of (cell_at cells t)) l off own.counted }; needed = left_needed g n _ need (is_some (evictable_in cells t)) l none }
+        record { sound = record { of = own.of; window = own.window; windowed = own.windowed; counted = left_counted g n _ (use_of (cell_at cells t)) l off own.counted }; needed = left_needed g n _ need (is_some (evictable_in cells t)) l none }
 
     by_evicts : (b : Bool) → evicts g n need ≡ b → Made g (closed_counts g (cond b (evictable_in cells t) None) cells n) (cell_at cells t) need
     by_evicts false e = record { sound = own; needed = room_kept g n need (is_some (evictable_in cells t)) none e }

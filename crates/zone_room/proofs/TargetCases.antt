@@ -103,20 +103,20 @@ write_room g n c c' w window left = record {
 
 -- ---- a zone that passed its check and for which room was made
 
-pub record ZoneMade (g : GeometryFields) (rows : Cell → List (Row Status)) (cells new : List Cell) (m : Limits) (t : ℕ) (d : Cell) (need : Need) : Type 0 where
+pub record ZoneMade (g : GeometryFields) (rows : Cell → List (Row Status)) (needs_of : Cell → Need) (cells new : List Cell) (m : Limits) (t : ℕ) (d : Cell) (need : Need) : Type 0 where
   pub same : get_or new t d ≡ cell_at cells t
   pub sound : IsSound g m (cell_at cells t)
   pub needed : HasNeeded g m need
   pub none : first_holding (rows (cell_at cells t)) ≡ None
-  pub needs : need_of (cell_at cells t).state ≡ need
+  pub needs : needs_of (cell_at cells t) ≡ need
 
-pub zone_made : (g : GeometryFields) (rows : Cell → List (Row Status)) (cells new : List Cell) (n m : Limits) (t : ℕ) (d d' : Cell) (need : Need) → All (IsSound g n) cells → t < length cells
-    → checked (first_holding (rows (get_or cells t d))) (need_of (get_or cells t d).state) ≡ Ok need → room_rows g cells n t need ≡ None → new ≡ with_closed g (evicted_in g cells n t need) cells → m ≡ closed_counts g (evicted_in g cells n t need) cells n
-    → ZoneMade g rows cells new m t d' need
-zone_made g rows cells new n m t d d' need sound lt passed room now counts =
+pub zone_made : (g : GeometryFields) (rows : Cell → List (Row Status)) (needs_of : Cell → Need) → ((c : Cell) → IsTrue (needs_of c).opened → is_opened c.state ≡ false) → (cells new : List Cell) (n m : Limits) (t : ℕ) (d d' : Cell) (need : Need) → All (IsSound g n) cells → t < length cells
+    → checked (first_holding (rows (get_or cells t d))) (needs_of (get_or cells t d)) ≡ Ok need → room_rows g cells n t need ≡ None → new ≡ with_closed g (evicted_in g cells n t need) cells → m ≡ closed_counts g (evicted_in g cells n t need) cells n
+    → ZoneMade g rows needs_of cells new m t d' need
+zone_made g rows needs_of unopened_before cells new n m t d d' need sound lt passed room now counts =
     let at = get_or_default cells t no_cell d lt in
-    let parts = checked-none (first_holding (rows (get_or cells t d))) (need_of (get_or cells t d).state) need passed in
-    let needs : need_of (cell_at cells t).state ≡ need = ap (λ (x : Cell). need_of x.state) at ∙ parts.1 in
-    let unopened : IsTrue need.opened → is_opened (cell_at cells t).state ≡ false = λ on. needs_unopened (cell_at cells t).state (ap (λ (u : Need). u.opened) needs ∙ on) in
+    let parts = checked-none (first_holding (rows (get_or cells t d))) (needs_of (get_or cells t d)) need passed in
+    let needs : needs_of (cell_at cells t) ≡ need = ap needs_of at ∙ parts.1 in
+    let unopened : IsTrue need.opened → is_opened (cell_at cells t).state ≡ false = λ on. unopened_before (cell_at cells t) (ap (λ (u : Need). u.opened) needs ∙ on) in
     let r = ready g cells new n m t d' need sound lt unopened room now counts in
     record { same = r.same; sound = r.made.sound; needed = r.made.needed; none = ap (λ (x : Cell). first_holding (rows x)) at ∙ parts.0; needs = needs }

@@ -43,4 +43,5 @@ pub record HasNeeded (g : GeometryFields) (n : Limits) (need : Need) : Type 0 wh
 pub record IsSound (g : GeometryFields) (n : Limits) (c : Cell) : Type 0 where
   pub of : IsOf g c
   pub window : HasSoundWindow g c
+  pub windowed : IsTrue c.window → IsTrue (is_active c.state)
   pub counted : AreCounted g n (use_of c)
