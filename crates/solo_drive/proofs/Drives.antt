@@ -5,6 +5,7 @@ use Rattle.std.specs.List.{flat_map, range_with_len}
 use Rattle.zns_types.specs.declared.fields.GeometryFields.{GeometryFields}
 use Rattle.zone_descriptor.specs.Descriptors.{descriptor_bytes}
 use Rattle.zns_types.specs.Geometry.{IsGeometry}
+use Rattle.zns_types.specs.States.{is_active}
 use Rattle.zone_limits.specs.declared.limits.Limits.{Limits}
 use Rattle.zone_room.specs.Using.{IsSound}
 use Rattle.zone_model.proofs.StandsAfter.{stands}
@@ -39,6 +40,7 @@ sound_cells g acts cells n valid s = λ z d lt.
         windows = λ on. st.windows (window-parts g h z (sym c.window ∙ on)).1;
         whole = λ on. ap (λ (p : ℕ). p % g.granule) c.pointer ∙ window_granular g acts z valid (sym c.window ∙ on);
       };
+      windowed = λ on. ap is_active c.state ∙ (window-parts g h z (sym c.window ∙ on)).0;
       counted = record {
         within = rw s.counts (within_limits g valid acts);
         active = rw (s.counts, c.state) (active-counted g h z below);

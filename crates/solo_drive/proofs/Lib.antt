@@ -9,6 +9,7 @@ pub mod Followed
 pub mod Counting
 pub mod Target
 pub mod WriteSteps
+pub mod SendSteps
 pub mod Others
 pub mod Tallies
 pub mod Posting

@@ -12,17 +12,19 @@ use Rattle.zone_model.specs.Answers.{status, evicted, rows_of, zone_move, first_
 use Rattle.zone_model.specs.Replies.{reply_bytes}
 use Rattle.solo_drive.specs.Standing.{is_served, IsServed}
 
--- what is served and is neither a Write nor a Read is not known
-unknown_of : (c : Cmd) → is_served c ≡ true → ((nsid slba blocks : ℕ) → c ≡ cmd.Write nsid slba blocks → ⊥) → ((nsid slba blocks : ℕ) → c ≡ cmd.Read nsid slba blocks → ⊥) → (n : ℕ) × (c ≡ cmd.Unknown n)
-unknown_of (cmd.Write nsid slba blocks) e no_write no_read = absurd (no_write nsid slba blocks refl)
-unknown_of (cmd.Read nsid slba blocks) e no_write no_read = absurd (no_read nsid slba blocks refl)
-unknown_of (cmd.Unknown n) e no_write no_read = (n, refl)
-unknown_of _ e no_write no_read = absurd cc
+-- what is served and is neither a Write nor a Read nor a Send is not known
+unknown_of : (c : Cmd) → is_served c ≡ true → ((nsid slba blocks : ℕ) → c ≡ cmd.Write nsid slba blocks → ⊥) → ((nsid slba blocks : ℕ) → c ≡ cmd.Read nsid slba blocks → ⊥)
+    → ((nsid slba act : ℕ) (option : Bool) → c ≡ cmd.Send nsid slba act false option → ⊥) → (n : ℕ) × (c ≡ cmd.Unknown n)
+unknown_of (cmd.Write nsid slba blocks) e no_write no_read no_send = absurd (no_write nsid slba blocks refl)
+unknown_of (cmd.Read nsid slba blocks) e no_write no_read no_send = absurd (no_read nsid slba blocks refl)
+unknown_of (cmd.Send nsid slba act false option) e no_write no_read no_send = absurd (no_send nsid slba act option refl)
+unknown_of (cmd.Unknown n) e no_write no_read no_send = (n, refl)
+unknown_of _ e no_write no_read no_send = absurd cc
 
 pub unknown : (g : GeometryFields) (h : List Place) (a : Act) → IsServed a → ((nsid slba blocks : ℕ) → command_of a ≡ cmd.Write nsid slba blocks → ⊥) → ((nsid slba blocks : ℕ) → command_of a ≡ cmd.Read nsid slba blocks → ⊥)
-    → status g h a ≡ invalid_opcode
+    → ((nsid slba act : ℕ) (option : Bool) → command_of a ≡ cmd.Send nsid slba act false option → ⊥) → status g h a ≡ invalid_opcode
 unfolding status
-unknown g h a served no_write no_read = let is = unknown_of (command_of a) served no_write no_read in rw is.1 refl
+unknown g h a served no_write no_read no_send = let is = unknown_of (command_of a) served no_write no_read no_send in rw is.1 refl
 
 either_none : (b : Bool) (bytes : List ℕ) → bytes ≡ [] → cond b bytes [] ≡ []
 either_none true bytes e = e
@@ -32,6 +34,11 @@ either_none false bytes e = refl
 pub write_reply : (g : GeometryFields) (h : List Place) (a : Act) (nsid slba blocks : ℕ) → command_of a ≡ cmd.Write nsid slba blocks → reply_bytes g h a ≡ []
 unfolding reply_bytes
 write_reply g h a nsid slba blocks e = either_none (is_success (status g h a)) _ (rw e refl)
+
+-- nor does a Send
+pub send_reply : (g : GeometryFields) (h : List Place) (a : Act) (nsid slba act : ℕ) (all option : Bool) → command_of a ≡ cmd.Send nsid slba act all option → reply_bytes g h a ≡ []
+unfolding reply_bytes
+send_reply g h a nsid slba act all option e = either_none (is_success (status g h a)) _ (rw e refl)
 
 -- nor does what is refused
 pub refused_reply : (g : GeometryFields) (h : List Place) (a : Act) → is_success (status g h a) ≡ false → reply_bytes g h a ≡ []

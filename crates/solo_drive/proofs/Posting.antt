@@ -15,6 +15,7 @@ use Rattle.solo_drive.proofs.Served.{served-waits}
 served_result_by : (g : GeometryFields) (h : List Place) (fired : Option ℕ) (c : Cmd) → is_served c ≡ true → result_by g h fired c ≡ no_result
 served_result_by g h fired (cmd.Write nsid slba blocks) e = refl
 served_result_by g h fired (cmd.Read nsid slba blocks) e = refl
+served_result_by g h fired (cmd.Send nsid slba act all option) e = refl
 served_result_by g h fired (cmd.Unknown opcode) e = refl
 served_result_by g h fired _ e = absurd cc
 

@@ -2,7 +2,7 @@
 use Rattle.std.proofs.Common.{◌≡◌, ◌≢◌, ℕ, zero, suc, ◌+◌, ◌<◌, ◌≤◌, Bool, true, false, cond, List, [], ◌∷◌, ◌++◌, Option, Some, None, length, get_or, set, refl, sym, ap, ◌∙◌, arith, inl, inr, get_or-set_same, get_or-set_other, length-set}
 use Rattle.std.specs.Prelude.{◌==◌, ◌&&◌, not, find, is_some, unwrap_or}
 use Rattle.std.specs.List.{range_with_len}
-use Rattle.std.proofs.lemmas.Bool.{cases_eq, ne_eqb, eq-eqb, and_parts, eqb-false, not-true}
+use Rattle.std.proofs.lemmas.Bool.{cases_Bool, cases_eq, ne_eqb, eq-eqb, and_parts, eqb-false, not-true}
 use Rattle.std.proofs.lemmas.List.{get_or_default}
 use Rattle.zns_types.specs.declared.fields.GeometryFields.{GeometryFields}
 use Rattle.zns_types.specs.Geometry.{IsGeometry}
@@ -104,7 +104,7 @@ counts_after g ev cells t c lt other =
 pub record IsTarget (g : GeometryFields) (h : List Place) (a : Act) (rows : List (Row Status)) (need : Need) (t : ℕ) (m : Action) : Type 0 where
   pub all : first_holding (all_rows g h (rows_of g h (command_of a))) ≡ first_holding (rows ++ need_rows g (counts g h) need (is_some (evictable g h t)))
   pub codes : refuses (all_rows g h (rows_of g h (command_of a))) ≡ true
-  pub target : (rows_of g h (command_of a)).target ≡ t
+  pub target : need.opened ≡ true → (rows_of g h (command_of a)).target ≡ t
   pub needs : first_holding (all_rows g h (rows_of g h (command_of a))) ≡ None → (rows_of g h (command_of a)).needs_open ≡ need.opened
   pub moves : (z : ℕ) → commanded g h (command_of a) z ≡ cond (t == z) (Some m) None
 
@@ -119,17 +119,20 @@ first_none {A = A} rs more e = by_first (first_holding rs) refl
     by_first None is = is
     by_first (Some s) is = absurd (cc (first_holding-append_some rs more s is, e))
 
-status-is : (g : GeometryFields) (h : List Place) (a : Act) → status g h a ≡ unwrap_or (first_holding (all_rows g h (rows_of g h (command_of a)))) success
+pub status-is : (g : GeometryFields) (h : List Place) (a : Act) → status g h a ≡ unwrap_or (first_holding (all_rows g h (rows_of g h (command_of a)))) success
 unfolding status
 status-is g h a = refl
 
-evicted-is : (g : GeometryFields) (h : List Place) (a : Act) (need : Need) (t : ℕ) → first_holding (all_rows g h (rows_of g h (command_of a))) ≡ None → (rows_of g h (command_of a)).target ≡ t
+evicted-is : (g : GeometryFields) (h : List Place) (a : Act) (need : Need) (t : ℕ) → first_holding (all_rows g h (rows_of g h (command_of a))) ≡ None → (need.opened ≡ true → (rows_of g h (command_of a)).target ≡ t)
     → (rows_of g h (command_of a)).needs_open ≡ need.opened → evicted g h a ≡ cond (evicts g (counts g h) need) (evictable g h t) None
 unfolding evicted
 evicted-is g h a need t none target needs =
     let r = rows_of g h (command_of a) in
     let before : first_holding r.before ≡ None = first_none r.before (no_open_left g h r ∷ r.later) none in
-    rw (before, target, needs) refl
+    elim (cases_Bool need.opened) [
+      | inl on ↦ rw (before, target on, needs) refl
+      | inr off ↦ let none_needed : r.needs_open ≡ false = needs ∙ off in rw (before, none_needed, off) refl
+    ]
 
 -- parts that stand, for a history with an act whose cells stand
 parts : (g : GeometryFields) (acts : List Act) (a : Act) (new : List Cell) (n : Limits) → CellsStand g (and_then g (answered g acts) a) new → n ≡ counts_in new → PartsStand g (acts ++ a ∷ []) new n

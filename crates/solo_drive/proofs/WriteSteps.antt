@@ -76,7 +76,7 @@ write_target g h a nsid slba blocks cells valid some s e =
     record {
       all = write_all g h a nsid slba blocks cells valid some s e;
       codes = rw e refl;
-      target = rw e refl;
+      target = λ on. rw e refl;
       needs = λ none.
           let below = target_below g nsid slba blocks valid some (passes_front g h a nsid slba blocks e none) in
           let same : state g h t ≡ (cell_at cells t).state = sym (s.each t below no_cell).state in

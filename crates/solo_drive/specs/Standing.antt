@@ -1,5 +1,5 @@
 -- What the parts of a drive stand for: a history of acts.
-use Rattle.std.specs.Prelude.{◌≡◌, ℕ, ◌^◌, ◌<◌, Bool, true, false, ◌&&◌, List, [], length, slice_index_or, None}
+use Rattle.std.specs.Prelude.{◌≡◌, ℕ, ◌^◌, ◌<◌, Bool, true, false, not, ◌&&◌, List, [], length, slice_index_or, None}
 use Rattle.zns_types.specs.declared.fields.GeometryFields.{GeometryFields}
 use Rattle.zns_types.specs.States.{is_active}
 use Rattle.sqe_codec.specs.declared.cmd.Cmd.{Cmd}
@@ -17,10 +17,11 @@ use Rattle.solo_drive.specs.declared.tally.Tally.{Tally}
 
 -- ---- what is served so far
 
--- a Write, a Read, or a command that is not known
+-- a Write, a Read, a Zone Management Send to one zone, or a command that is not known
 abbrev pub is_served : Cmd → Bool
 is_served (cmd.Write nsid slba blocks) = true
 is_served (cmd.Read nsid slba blocks) = true
+is_served (cmd.Send nsid slba act all option) = not all
 is_served (cmd.Unknown opcode) = true
 is_served _ = false
 

@@ -8,6 +8,7 @@ ghost use Rattle.solo_drive.specs.Serving.{HasLengths};
 
 use crate::reads::{Outcome, read_blocks};
 use crate::writes::write;
+use mgmt_send::act_on_zone;
 use sqe_codec::{Cmd, read};
 use zns_types::{Code, Geometry};
 use zone_cell::ZoneCell;
@@ -39,6 +40,16 @@ pub fn serve(
             Outcome { code, len: 0 }
         }
         Cmd::Read { nsid, slba, blocks } => read_blocks(cells, g, nsid, slba, blocks, out),
+        Cmd::Send {
+            nsid,
+            slba,
+            action,
+            option,
+            ..
+        } => {
+            let code = act_on_zone(cells, limits, g, nsid, slba, action, option);
+            Outcome { code, len: 0 }
+        }
         _ => Outcome {
             code: Code::INVALID_OPCODE,
             len: 0,

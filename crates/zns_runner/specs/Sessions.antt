@@ -1,14 +1,22 @@
 -- The sessions that `one` serves, and what it writes.
-use Rattle.std.specs.Prelude.{◌≡◌, ℕ, ◌≤◌, List, [], ◌∷◌, All, codes}
+use Rattle.std.specs.Prelude.{◌≡◌, ℕ, ◌≤◌, Bool, true, false, List, [], ◌∷◌, All, codes}
+use Rattle.sqe_codec.specs.declared.cmd.Cmd.{Cmd}
+use Rattle.sqe_codec.specs.declared.cmd.Cmd.TheVariants as cmd
 use Rattle.zone_model.specs.declared.act.Act.{Act}
+use Rattle.zone_model.specs.Places.{command_of}
 use Rattle.zone_model.specs.Sessions.{Recorded, IsSession, result_of, own_order}
 use Rattle.zns_types.specs.declared.fields.GeometryFields.{GeometryFields}
 use Rattle.solo_drive.specs.Standing.{IsServed}
 
--- an act on an I/O queue: a Write, a Read, or an opcode that isn't listed for I/O queues
+abbrev pub is_send : Cmd → Bool
+is_send (cmd.Send nsid slba act all option) = true
+is_send _ = false
+
+-- an act on an I/O queue: a Write, a Read, or an opcode that isn't listed for I/O queues; of what the drive serves, no Send
 pub record IsBuiltAct (a : Act) : Type 0 where
   pub queue : 1 ≤ a.queue
   pub served : IsServed a
+  pub no_send : is_send (command_of a) ≡ false
 
 -- no limit on active and opened zones, and no random write areas
 pub record IsUnlimited (g : GeometryFields) : Type 0 where

@@ -1,4 +1,6 @@
-use Rattle.std.proofs.Common.{◌≡◌, ℕ, List, sym, ◌∙◌, ap, refl, length}
+use Rattle.std.proofs.Common.{◌≡◌, ℕ, Bool, true, false, List, sym, ◌∙◌, ap, refl, length}
+use Rattle.std.specs.Prelude.{not}
+use Rattle.std.proofs.lemmas.Bool.{not-true}
 use Rattle.zns_types.specs.Statuses.{is_success, invalid_opcode}
 use Rattle.sqe_codec.specs.declared.cmd.Cmd.TheVariants as cmd
 use Rattle.zone_model.specs.declared.act.Act.{Act}
@@ -9,7 +11,8 @@ use Rattle.solo_drive.proofs.Drives.{of_drive}
 use Rattle.solo_drive.proofs.Target as target
 use Rattle.solo_drive.proofs.WriteSteps.{write_step}
 use Rattle.solo_drive.proofs.ReadSteps as reading
-use Rattle.solo_drive.proofs.Others.{unknown, write_reply, refused_reply}
+use Rattle.solo_drive.proofs.Others.{unknown, write_reply, send_reply, refused_reply}
+use Rattle.solo_drive.proofs.SendSteps.{send_step}
 use Rattle.solo_drive.proofs.serving.serve.Goals as goal
 
 pub returns-in-Write : goal.returns-in-Write
@@ -55,13 +58,31 @@ returns-in-Read c =
       stand = λ acts s. (all acts s).stand;
     }
 
+pub returns-in-Send : goal.returns-in-Send
+returns-in-Send c =
+    let g = c.args.g.now.fields in
+    let a = c.args.act.now in
+    let k = c.in-Send in
+    let is : command_of a ≡ cmd.Send k.nsid k.slba k.action k.all k.option = sym k.ensures.command in
+    let one : not k.all ≡ true = rw is at c.requires.served in
+    let e : command_of a ≡ cmd.Send k.nsid k.slba k.action false k.option = is ∙ ap (λ (b : Bool). cmd.Send k.nsid k.slba k.action b k.option) (not-true k.all one) in
+    let all : (acts : List Act) → PartsStand g acts c.args.cells.now c.args.limits.now → target.After g acts a c.act_on_zone-code.new.cells c.act_on_zone-code.new.limits c.act_on_zone-code.result =
+    λ acts s. send_step g acts a k.nsid k.slba k.action k.option c.args.cells.now c.act_on_zone-code.new.cells c.args.limits.now c.act_on_zone-code.new.limits c.act_on_zone-code.result c.args.g.now.valid e c.requires.lengths.payload s c.act_on_zone-code.ensures in
+    record {
+      status = λ acts s. (all acts s).status;
+      len = λ acts s. sym (ap length (send_reply g (answered g acts) a k.nsid k.slba k.action false k.option e));
+      read = λ acts s. rw (send_reply g (answered g acts) a k.nsid k.slba k.action false k.option e) refl;
+      stand = λ acts s. (all acts s).stand;
+    }
+
 pub returns-in_default : goal.returns-in_default
 returns-in_default c =
     let g = c.args.g.now.fields in
     let a = c.args.act.now in
     let no_write : (nsid slba blocks : ℕ) → command_of a ≡ cmd.Write nsid slba blocks → ⊥ = λ nsid slba blocks e. c.in_default.not-Write nsid slba blocks (c.read.ensures.command ∙ e) in
     let no_read : (nsid slba blocks : ℕ) → command_of a ≡ cmd.Read nsid slba blocks → ⊥ = λ nsid slba blocks e. c.in_default.not-Read nsid slba blocks (c.read.ensures.command ∙ e) in
-    let is : (acts : List Act) → status g (answered g acts) a ≡ invalid_opcode = λ acts. unknown g (answered g acts) a c.requires.served no_write no_read in
+    let no_send : (nsid slba act : ℕ) (option : Bool) → command_of a ≡ cmd.Send nsid slba act false option → ⊥ = λ nsid slba act option e. c.in_default.not-Send nsid slba act false option (c.read.ensures.command ∙ e) in
+    let is : (acts : List Act) → status g (answered g acts) a ≡ invalid_opcode = λ acts. unknown g (answered g acts) a c.requires.served no_write no_read no_send in
     record {
       status = λ acts s. sym (is acts);
       len = λ acts s. sym (ap length (refused_reply g (answered g acts) a (ap is_success (is acts))));

@@ -8,7 +8,7 @@ use Rattle.zone_cell.specs.Cells.{Cell, sight, need_of, written, count_of, check
 use Rattle.zone_room.specs.Using.{use_of, recounted}
 use Rattle.zone_room.specs.Rooms.{no_cell, cell_at, room_rows, evicted_in, with_closed, closed_counts}
 use Rattle.std.proofs.lemmas.List.{get_or_default}
-use Rattle.zone_room.proofs.TargetCases.{by_row, by_want, by_none, checked-none, checked-some, zone_made}
+use Rattle.zone_room.proofs.TargetCases.{by_row, by_want, by_none, checked-none, checked-some, needs_unopened, zone_made}
 use Rattle.solo_drive.proofs.Blocks.{whole_blocks, whole_payload}
 use Rattle.solo_drive.proofs.writes.write_zone.Goals as goal
 
@@ -41,20 +41,20 @@ returns-in-Some c =
 
 pub write_cell-requires-clause-sound : goal.write_cell-requires-clause-sound
 write_cell-requires-clause-sound c =
-    let m = zone_made c.args.g.now.fields (λ x. write_rows c.args.g.now.fields (sight x) c.args.from c.args.blocks) c.args.cells.now c.make_room.new.cells c.args.limits.now c.make_room.new.limits c.args.zone c.index-cells-zone.result
+    let m = zone_made c.args.g.now.fields (λ x. write_rows c.args.g.now.fields (sight x) c.args.from c.args.blocks) (λ x. need_of x.state) (λ x on. needs_unopened x.state on) c.args.cells.now c.make_room.new.cells c.args.limits.now c.make_room.new.limits c.args.zone c.index-cells-zone.result
     c.index-cells-zone-2.result c.in-Ok.need c.requires.sound c.requires.below (sym c.check_write.ensures ∙ c.in-Ok.is) (sym c.make_room.ensures.refused ∙ c.in_default.is) c.in_default.ensures.cells c.in_default.ensures.limits in
     rw m.same m.sound
 
 pub write_cell-requires-clause-blocks : goal.write_cell-requires-clause-blocks
 write_cell-requires-clause-blocks c =
-    let m = zone_made c.args.g.now.fields (λ x. write_rows c.args.g.now.fields (sight x) c.args.from c.args.blocks) c.args.cells.now c.make_room.new.cells c.args.limits.now c.make_room.new.limits c.args.zone c.index-cells-zone.result
+    let m = zone_made c.args.g.now.fields (λ x. write_rows c.args.g.now.fields (sight x) c.args.from c.args.blocks) (λ x. need_of x.state) (λ x on. needs_unopened x.state on) c.args.cells.now c.make_room.new.cells c.args.limits.now c.make_room.new.limits c.args.zone c.index-cells-zone.result
     c.index-cells-zone-2.result c.in-Ok.need c.requires.sound c.requires.below (sym c.check_write.ensures ∙ c.in-Ok.is) (sym c.make_room.ensures.refused ∙ c.in_default.is) c.in_default.ensures.cells c.in_default.ensures.limits in
     let some : 1 ≤ (cell_at c.args.cells.now c.args.zone).block_len = rw m.sound.of.len (pow_pos c.args.g.now.fields.block_exp) in
     rw m.same (whole_payload (cell_at c.args.cells.now c.args.zone).block_len c.args.blocks c.args.payload.now some c.requires.some (c.requires.payload ∙ ap (λ (n : ℕ). c.args.blocks * n) (sym m.sound.of.len)))
 
 pub write_cell-requires-clause-admitted : goal.write_cell-requires-clause-admitted
 write_cell-requires-clause-admitted c =
-    let m = zone_made c.args.g.now.fields (λ x. write_rows c.args.g.now.fields (sight x) c.args.from c.args.blocks) c.args.cells.now c.make_room.new.cells c.args.limits.now c.make_room.new.limits c.args.zone c.index-cells-zone.result
+    let m = zone_made c.args.g.now.fields (λ x. write_rows c.args.g.now.fields (sight x) c.args.from c.args.blocks) (λ x. need_of x.state) (λ x on. needs_unopened x.state on) c.args.cells.now c.make_room.new.cells c.args.limits.now c.make_room.new.limits c.args.zone c.index-cells-zone.result
     c.index-cells-zone-2.result c.in-Ok.need c.requires.sound c.requires.below (sym c.check_write.ensures ∙ c.in-Ok.is) (sym c.make_room.ensures.refused ∙ c.in_default.is) c.in_default.ensures.cells c.in_default.ensures.limits in
     let cell = cell_at c.args.cells.now c.args.zone in
     let some : 1 ≤ cell.block_len = rw m.sound.of.len (pow_pos c.args.g.now.fields.block_exp) in
@@ -63,7 +63,7 @@ write_cell-requires-clause-admitted c =
 
 pub write_cell-requires-clause-needed : goal.write_cell-requires-clause-needed
 write_cell-requires-clause-needed c =
-    let m = zone_made c.args.g.now.fields (λ x. write_rows c.args.g.now.fields (sight x) c.args.from c.args.blocks) c.args.cells.now c.make_room.new.cells c.args.limits.now c.make_room.new.limits c.args.zone c.index-cells-zone.result
+    let m = zone_made c.args.g.now.fields (λ x. write_rows c.args.g.now.fields (sight x) c.args.from c.args.blocks) (λ x. need_of x.state) (λ x on. needs_unopened x.state on) c.args.cells.now c.make_room.new.cells c.args.limits.now c.make_room.new.limits c.args.zone c.index-cells-zone.result
     c.index-cells-zone-2.result c.in-Ok.need c.requires.sound c.requires.below (sym c.check_write.ensures ∙ c.in-Ok.is) (sym c.make_room.ensures.refused ∙ c.in_default.is) c.in_default.ensures.cells c.in_default.ensures.limits in
     rw (m.same, m.needs) m.needed
 
@@ -73,7 +73,7 @@ returns c =
     let cells = c.args.cells.now in
     let n = c.args.limits.now in
     let z = c.args.zone in
-    let m = zone_made c.args.g.now.fields (λ x. write_rows c.args.g.now.fields (sight x) c.args.from c.args.blocks) c.args.cells.now c.make_room.new.cells c.args.limits.now c.make_room.new.limits c.args.zone c.index-cells-zone.result
+    let m = zone_made c.args.g.now.fields (λ x. write_rows c.args.g.now.fields (sight x) c.args.from c.args.blocks) (λ x. need_of x.state) (λ x on. needs_unopened x.state on) c.args.cells.now c.make_room.new.cells c.args.limits.now c.make_room.new.limits c.args.zone c.index-cells-zone.result
     c.index-cells-zone-2.result c.in-Ok.need c.requires.sound c.requires.below (sym c.check_write.ensures ∙ c.in-Ok.is) (sym c.make_room.ensures.refused ∙ c.in_default.is) c.in_default.ensures.cells c.in_default.ensures.limits in
     let cell = cell_at cells z in
     let need = need_of cell.state in
