@@ -16,6 +16,7 @@ use Rattle.zone_limits.specs.declared.limits.Limits.{Limits}
 use Rattle.zone_cell.specs.Cells.{Cell}
 use Rattle.zone_room.specs.Using.{use_of, HasNeeded, HasRoomFor, IsSound}
 use Rattle.zone_room.proofs.TargetCases.{needs_unopened}
+use Rattle.zone_model.proofs.Ways.{implies, implied, led_to}
 use Rattle.mgmt_send.specs.Sending.{is_sendable, need_for, rows_for, sent_cell}
 
 -- ---- an Open
@@ -75,20 +76,10 @@ flush_room g n option last c sound none left =
 
 -- ---- the others
 
-abbrev implies : Bool → Bool → Bool
-implies a b = cond a b true
-
-implied : (a b : Bool) → implies a b ≡ true → a ≡ true → b ≡ true
-implied true b e on = e
-implied false b e on = absurd (cc on)
-
 -- a result of the table by which a zone is in use only where it was
 abbrev keeps_use : State → Result State Status → Bool
 keeps_use s (Ok t) = implies (is_active t) (is_active s) && implies (is_opened t) (is_opened s)
 keeps_use s (Err code) = true
-
-abbrev led_to : Result State Status → State → State
-led_to r s = elim r [ Ok t ↦ t | Err _ ↦ s ]
 
 record KeepsUse (s t : State) : Type 0 where
   pub active : is_active t ≡ true → is_active s ≡ true

@@ -4,10 +4,11 @@ use Rattle.std.specs.Prelude.{◌&&◌, nat_le, nat_lt}
 use Rattle.std.proofs.lemmas.Bool.{cases_lt}
 use Rattle.std.proofs.lemmas.Bool.Decides.{nat_tests}
 use Rattle.std.proofs.lemmas.List.{get_or_past}
-use Rattle.std.proofs.lemmas.List.FromFn.{get_or-map-range_with_len, length-map-range_with_len}
+use Rattle.std.proofs.lemmas.List.FromFn.{get_or-map-range_with_len}
 use Rattle.std.proofs.Math.Nat.{mul-div_cancel}
 use Rattle.zone_state.specs.Blocks.{block_at}
 use Rattle.zone_cell.specs.Cells.{with_blocks, IsBlocks}
+use Rattle.zone_cell.proofs.Blocks.{length-with_blocks}
 
 -- the number of whole blocks
 pub whole_blocks : (len blocks n : ℕ) → 1 ≤ len → n ≡ blocks * len → n / len ≡ blocks
@@ -21,9 +22,6 @@ whole_payload len blocks payload some one e =
 
 past : (from blocks b : ℕ) → from + blocks ≤ b → (nat_le from b && nat_lt b (from + blocks)) ≡ false
 past from blocks b h = grind (arith, nat_tests)
-
-pub length-with_blocks : (len from : ℕ) (payload : List ℕ) (old : List (Option (List ℕ))) → length (with_blocks len from payload old) ≡ length old
-length-with_blocks len from payload old = length-map-range_with_len _ 0 (length old)
 
 -- a block is that of the data where the write covers it, and else as before
 pub written_block : (len from blocks b : ℕ) (payload : List ℕ) (old : List (Option (List ℕ))) → length payload / len ≡ blocks → from + blocks ≤ length old

@@ -31,7 +31,8 @@ use Rattle.zone_model.proofs.Pointers.{by_move, reset-pointer, finish-pointer, w
 use Rattle.zone_model.proofs.Ways.{is_live, still_keeps, active_live, live_empty, finish_full, reset_empty, open_live, write_live}
 use Rattle.solo_drive.specs.Standing.{CellStands}
 use Rattle.solo_drive.specs.Following.{begins_at, moved_cell}
-use Rattle.solo_drive.proofs.Blocks.{whole_blocks, length-with_blocks, written_block}
+use Rattle.zone_cell.proofs.Blocks.{length-with_blocks}
+use Rattle.solo_drive.proofs.Blocks.{whole_blocks, written_block}
 use Rattle.solo_drive.proofs.Stands.{kept}
 use Rattle.solo_drive.proofs.Moving.{is_kind, excursed-move, write-len, opens-asks}
 use Rattle.solo_drive.proofs.Marks.{or-none, mark_after, window-is, had-step, windowed-step, live_writable, writable-before}

@@ -2,7 +2,7 @@
 use Rattle.std.proofs.Common.{◌≡◌, ◌≢◌, ℕ, zero, suc, ◌+◌, ◌<◌, ◌≤◌, Bool, true, false, cond, List, [], ◌∷◌, ◌++◌, Option, Some, None, length, get_or, set, refl, sym, ap, ◌∙◌, arith, inl, inr, get_or-set_same, get_or-set_other, length-set}
 use Rattle.std.specs.Prelude.{◌==◌, ◌&&◌, not, find, is_some, unwrap_or}
 use Rattle.std.specs.List.{range_with_len}
-use Rattle.std.proofs.lemmas.Bool.{cases_Bool, cases_eq, ne_eqb, eq-eqb, and_parts, eqb-false, not-true}
+use Rattle.std.proofs.lemmas.Bool.{cases_Bool, cases_eq, ne_eqb, eq-eqb}
 use Rattle.std.proofs.lemmas.List.{get_or_default}
 use Rattle.zns_types.specs.declared.fields.GeometryFields.{GeometryFields}
 use Rattle.zns_types.specs.Geometry.{IsGeometry}
@@ -19,13 +19,13 @@ use Rattle.zone_limits.specs.Resources.{need_rows, evicts}
 use Rattle.zone_cell.specs.Cells.{Cell}
 use Rattle.zone_room.specs.Using.{use_of, recounted}
 use Rattle.zone_room.specs.Rooms.{no_cell, cell_at, evictable_in, evicted_in, closed, with_closed, closed_counts}
+use Rattle.zone_room.proofs.Finding.{opened_there}
 use Rattle.zone_model.specs.declared.act.Act.{Act}
 use Rattle.zone_model.specs.Places.{Place, command_of}
 use Rattle.zone_model.specs.Zones.{state, counts}
 use Rattle.zone_model.specs.Answers.{status, evicted, evictable, rows_of, all_rows, no_open_left, zone_move, or_close, commanded, is_zone, and_then, answered}
 use Rattle.zone_model.proofs.Histories.{answered-push}
 use Rattle.zone_model.proofs.StandsAfter.{stands}
-use Rattle.zone_model.proofs.Passing.{find-range}
 use Rattle.zone_model.proofs.Deeds.{move_taken}
 use Rattle.solo_drive.specs.Standing.{CellStands, CellsStand, PartsStand}
 use Rattle.solo_drive.specs.Following.{moved_cell}
@@ -171,9 +171,8 @@ other_zone g cells n t y need e = by_evicts (evicts g n need) e
   where
     by_found : evictable_in cells t ≡ Some y → IsOther cells t y
     by_found found =
-        let is = find-range (λ z. is_implicitly_opened (cell_at cells z).state && not (z == t)) 0 (length cells) y found in
-        let apart = (and_parts (is_implicitly_opened (cell_at cells y).state) (not (y == t)) is.0).1 in
-        record { below = omega arith; apart = eqb-false y t (not-true _ apart) }
+        let is = opened_there cells t y found in
+        record { below = is.below; apart = is.apart }
 
     by_evicts : (b : Bool) → cond b (evictable_in cells t) None ≡ Some y → IsOther cells t y
     by_evicts true e = by_found e

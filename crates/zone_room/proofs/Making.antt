@@ -167,7 +167,3 @@ ready g cells new n m t d need sound lt unopened none now counts =
       same = get_or_default new t d no_cell len ∙ ap (λ (l : List Cell). cell_at l t) now ∙ same_target g cells n t need;
       made = rw counts (made g cells n t need sound lt unopened none);
     }
-
--- a cell that was read is the one at its place
-pub at_place : (cells : List Cell) (t : ℕ) (d : Cell) → t < length cells → d ≡ get_or cells t d → cell_at cells t ≡ d
-at_place cells t d lt is = get_or_default cells t no_cell d lt ∙ sym is
