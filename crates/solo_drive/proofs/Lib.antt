@@ -10,6 +10,7 @@ pub mod Counting
 pub mod Target
 pub mod WriteSteps
 pub mod SendSteps
+pub mod AppendSteps
 pub mod Others
 pub mod Tallies
 pub mod Posting

@@ -3,3 +3,4 @@ pub mod Standing
 pub mod Serving
 pub mod Reading
 pub mod Following
+pub mod Appending

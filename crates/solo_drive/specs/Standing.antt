@@ -17,10 +17,12 @@ use Rattle.solo_drive.specs.declared.tally.Tally.{Tally}
 
 -- ---- what is served so far
 
--- a Write, a Read, a Zone Management Send to one zone, or a command that is not known
+-- a Flush, a Write, a Read, an Append, a Zone Management Send to one zone, or a command that is not known
 abbrev pub is_served : Cmd → Bool
+is_served (cmd.Flush nsid) = true
 is_served (cmd.Write nsid slba blocks) = true
 is_served (cmd.Read nsid slba blocks) = true
+is_served (cmd.Append nsid zslba blocks) = true
 is_served (cmd.Send nsid slba act all option) = not all
 is_served (cmd.Unknown opcode) = true
 is_served _ = false

@@ -1,6 +1,8 @@
 //! A drive that serves one command at a time.
 #![tactic(auto)]
 
+mod appends;
+mod flushes;
 mod front;
 mod posted;
 mod reads;

@@ -11,11 +11,12 @@ use crate::front::check_front;
 use zns_types::{Code, Geometry, State};
 use zone_cell::ZoneCell;
 
-/// The status of a command, and how many bytes it read.
+/// The status of a command, how many bytes it read, and the first block of an Append; 0 for all else.
 #[derive(Clone, Copy, Debug, PartialEq, Eq)]
 pub struct Outcome {
     pub code: Code,
     pub len: u32,
+    pub lba: u64,
 }
 
 fn is_offline(state: State) -> bool
@@ -91,15 +92,21 @@ pub fn read_blocks(
     requires all { length cells.now ≡ g.now.fields.zones }
     requires of { All (IsOf g.now.fields) cells.now }
     requires room { HasRoom g.now.fields (length out.old) (blocks * block_len g.now.fields) }
-    ensures { ReadServed g.now.fields cells.now nsid slba blocks out.old out.new result.code result.len }
+    ensures served { ReadServed g.now.fields cells.now nsid slba blocks out.old out.new result.code result.len }
+    ensures no_block { result.lba ≡ 0 }
 {
     if let Some(code) = check_read(cells, g, nsid, slba, blocks) {
-        return Outcome { code, len: 0 };
+        return Outcome {
+            code,
+            len: 0,
+            lba: 0,
+        };
     }
     let len = blocks * g.block_len();
     copy_blocks(cells, g, slba, blocks, &mut out[..len as usize]);
     Outcome {
         code: Code::SUCCESS,
         len,
+        lba: 0,
     }
 }

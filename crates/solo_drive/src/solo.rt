@@ -119,7 +119,14 @@ impl Solo {
         };
         let outcome = serve(&mut self.cells, &mut self.limits, &self.geometry, &act, out);
         let tally = &mut self.tallies[queue as usize];
-        let own = post(tally, &self.geometry, queue, cid(&act.sqe), outcome.code);
+        let own = post(
+            tally,
+            &self.geometry,
+            queue,
+            cid(&act.sqe),
+            outcome.code,
+            outcome.lba,
+        );
         self.journal.push(act);
         let mut entries = ArrayVec::new();
         entries.push(own);

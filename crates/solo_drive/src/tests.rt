@@ -64,9 +64,11 @@ fn is_writable(cmd: Cmd) -> bool
     ensures { IsTrue result → IsWritable cmd }
 {
     match cmd {
-        Cmd::Write { blocks, .. } | Cmd::Read { blocks, .. } => 1 <= blocks && blocks <= 65_536,
+        Cmd::Write { blocks, .. } | Cmd::Read { blocks, .. } | Cmd::Append { blocks, .. } => {
+            1 <= blocks && blocks <= 65_536
+        }
         Cmd::Unknown { opcode } => opcode == 0x55,
-        Cmd::Send { .. } => true,
+        Cmd::Send { .. } | Cmd::Flush { .. } => true,
         _ => false,
     }
 }
@@ -75,7 +77,11 @@ fn is_served(sqe: &Sqe, queue: u16) -> bool
     ensures { IsTrue result → is_served (command (queue == 0) sqe.now.bytes) ≡ true }
 {
     match read(sqe, queue == 0) {
-        Cmd::Write { .. } | Cmd::Read { .. } | Cmd::Unknown { .. } => true,
+        Cmd::Write { .. }
+        | Cmd::Read { .. }
+        | Cmd::Append { .. }
+        | Cmd::Flush { .. }
+        | Cmd::Unknown { .. } => true,
         Cmd::Send { all, .. } => !all,
         _ => false,
     }
@@ -408,5 +414,56 @@ fn a_random_write_area_moves(rt: HostRuntime) -> Result<(), Fail> {
     ];
     assert_eq!(rt; first_unmanaged(alloc, &mut drive, &rows)?, None);
     assert_eq!(rt; drive.limits().windows, 1);
+    Ok(())
+}
+
+fn join(zslba: u64, blocks: u32) -> Cmd {
+    Cmd::Append {
+        nsid: 1,
+        zslba,
+        blocks,
+    }
+}
+
+// An Append tells its first block, in two dwords.
+#[test]
+fn appends_tell_their_first_block(rt: HostRuntime) -> Result<(), Fail> {
+    let alloc = rt.alloc();
+    let mut drive = drive_of(alloc, GeometryFields { zasl: 0, ..SMALL })?;
+    // a command, its status, its result, and its zone's pointer after it
+    let rows = [
+        (join(64, 2), DONE, 64, 2),
+        (join(64, 2), DONE, 66, 4),
+        (put(68, 1), DONE, 0, 5),
+        (join(64, 1), DONE, 69, 6),
+        (join(65, 1), Code::INVALID_FIELD, 0, 6),
+        (join(64, 43), Code { sct: 1, sc: 0xb8 }, 0, 6),
+        (join(64, 42), DONE, 70, 48),
+        (join(64, 1), Code { sct: 1, sc: 0xb9 }, 0, 48),
+        (send(64, RESET, false), DONE, 0, 0),
+        (join(64, 1), DONE, 64, 1),
+        (send(64, OPEN, true), Code { sct: 1, sc: 0xb6 }, 0, 1),
+        (Cmd::Flush { nsid: u32::MAX }, DONE, 0, 1),
+        (Cmd::Flush { nsid: 2 }, Code::INVALID_NAMESPACE, 0, 1),
+    ];
+    for (i, (cmd, code, first, pointer)) in rows.iter().enumerate() {
+        match serve(alloc, &mut drive, 1, *cmd, 0x11)? {
+            None => assert!(rt; false, "{i}"),
+            Some(answer) => {
+                let entry = answer.entry;
+                assert_eq!(rt;
+                    (entry.code, entry.dw0, entry.dw1),
+                    (*code, *first, 0),
+                    "{i}"
+                );
+            }
+        }
+        let zones = zones_of(alloc, &drive)?;
+        assert_eq!(rt;
+            zones.as_slice().get(1).map(|zone| zone.1),
+            Some(*pointer),
+            "{i}"
+        );
+    }
     Ok(())
 }

@@ -6,17 +6,18 @@ use Rattle.zone_model.specs.declared.act.Act.{Act}
 use Rattle.zone_model.specs.Places.{command_of}
 use Rattle.zone_model.specs.Sessions.{Recorded, IsSession, result_of, own_order}
 use Rattle.zns_types.specs.declared.fields.GeometryFields.{GeometryFields}
-use Rattle.solo_drive.specs.Standing.{IsServed}
 
-abbrev pub is_send : Cmd → Bool
-is_send (cmd.Send nsid slba act all option) = true
-is_send _ = false
+-- a Write, a Read, or an opcode that isn't listed for the queue
+abbrev pub is_built : Cmd → Bool
+is_built (cmd.Write nsid slba blocks) = true
+is_built (cmd.Read nsid slba blocks) = true
+is_built (cmd.Unknown opcode) = true
+is_built _ = false
 
--- an act on an I/O queue: a Write, a Read, or an opcode that isn't listed for I/O queues; of what the drive serves, no Send
+-- such an act on an I/O queue
 pub record IsBuiltAct (a : Act) : Type 0 where
   pub queue : 1 ≤ a.queue
-  pub served : IsServed a
-  pub no_send : is_send (command_of a) ≡ false
+  pub built : is_built (command_of a) ≡ true
 
 -- no limit on active and opened zones, and no random write areas
 pub record IsUnlimited (g : GeometryFields) : Type 0 where

@@ -11,7 +11,10 @@ use Rattle.solo_drive.proofs.Drives.{of_drive}
 use Rattle.solo_drive.proofs.Target as target
 use Rattle.solo_drive.proofs.WriteSteps.{write_step}
 use Rattle.solo_drive.proofs.ReadSteps as reading
-use Rattle.solo_drive.proofs.Others.{unknown, write_reply, send_reply, refused_reply}
+use Rattle.solo_drive.proofs.Others.{unknown, write_reply, send_reply, append_reply, flush_reply, flush_no_move, flush_status, refused_reply}
+use Rattle.solo_drive.proofs.Posting.{plain_result, refused_result}
+use Rattle.solo_drive.proofs.AppendSteps.{append_step, append_told}
+use Rattle.zone_model.specs.Entries.{block_result}
 use Rattle.solo_drive.proofs.SendSteps.{send_step}
 use Rattle.solo_drive.proofs.serving.serve.Goals as goal
 
@@ -28,6 +31,7 @@ returns-in-Write c =
       status = λ acts s. (all acts s).status;
       len = λ acts s. sym (ap length (write_reply g (answered g acts) a k.nsid k.slba k.blocks e));
       read = λ acts s. rw (write_reply g (answered g acts) a k.nsid k.slba k.blocks e) refl;
+      result = λ acts s. sym (plain_result g (answered g acts) a (rw e refl));
       stand = λ acts s. (all acts s).stand;
     }
 
@@ -48,13 +52,14 @@ returns-in-Read c =
       some = k.ensures.ranges.2.0;
       room = c.requires.lengths.reply;
       size = c.read_blocks.auto.out;
-      done = c.read_blocks.ensures;
+      done = c.read_blocks.ensures.served;
       stand = s;
     }) in
     record {
       status = λ acts s. (all acts s).status;
       len = λ acts s. (all acts s).count;
       read = λ acts s. (all acts s).read;
+      result = λ acts s. ap block_result c.read_blocks.ensures.no_block ∙ sym (plain_result g (answered g acts) a (rw e refl));
       stand = λ acts s. (all acts s).stand;
     }
 
@@ -72,7 +77,38 @@ returns-in-Send c =
       status = λ acts s. (all acts s).status;
       len = λ acts s. sym (ap length (send_reply g (answered g acts) a k.nsid k.slba k.action false k.option e));
       read = λ acts s. rw (send_reply g (answered g acts) a k.nsid k.slba k.action false k.option e) refl;
+      result = λ acts s. sym (plain_result g (answered g acts) a (rw e refl));
       stand = λ acts s. (all acts s).stand;
+    }
+
+pub returns-in-Append : goal.returns-in-Append
+returns-in-Append c =
+    let g = c.args.g.now.fields in
+    let a = c.args.act.now in
+    let k = c.in-Append in
+    let e : command_of a ≡ cmd.Append k.nsid k.zslba k.blocks = sym k.ensures.command in
+    let done = rw c.as_slice-in-Append.ensures at c.append.ensures.served in
+    let all : (acts : List Act) → PartsStand g acts c.args.cells.now c.args.limits.now → target.After g acts a c.append.new.cells c.append.new.limits c.append.result.code =
+    λ acts s. append_step g acts a k.nsid k.zslba k.blocks c.args.cells.now c.append.new.cells c.args.limits.now c.append.new.limits c.append.result.code c.args.g.now.valid e c.requires.lengths.payload s done in
+    record {
+      status = λ acts s. (all acts s).status;
+      len = λ acts s. c.append.ensures.len ∙ sym (ap length (append_reply g (answered g acts) a k.nsid k.zslba k.blocks e));
+      read = λ acts s. rw (append_reply g (answered g acts) a k.nsid k.zslba k.blocks e, c.append.ensures.len) refl;
+      result = λ acts s. append_told g acts a k.nsid k.zslba k.blocks c.args.cells.now c.args.limits.now c.append.result.code c.append.result.lba c.args.g.now.valid e s (all acts s).status c.append.ensures.lba;
+      stand = λ acts s. (all acts s).stand;
+    }
+
+pub returns-in-Flush : goal.returns-in-Flush
+returns-in-Flush c =
+    let g = c.args.g.now.fields in
+    let a = c.args.act.now in
+    let e : command_of a ≡ cmd.Flush c.in-Flush.nsid = sym c.in-Flush.ensures.command in
+    record {
+      status = λ acts s. c.flush.ensures ∙ flush_status g (answered g acts) a c.in-Flush.nsid e;
+      len = λ acts s. sym (ap length (flush_reply g (answered g acts) a c.in-Flush.nsid e));
+      read = λ acts s. rw (flush_reply g (answered g acts) a c.in-Flush.nsid e) refl;
+      result = λ acts s. sym (plain_result g (answered g acts) a (rw e refl));
+      stand = λ acts s. target.idle g acts a c.args.cells.now c.args.limits.now (flush_no_move g (answered g acts) a c.in-Flush.nsid e) s;
     }
 
 pub returns-in_default : goal.returns-in_default
@@ -82,10 +118,13 @@ returns-in_default c =
     let no_write : (nsid slba blocks : ℕ) → command_of a ≡ cmd.Write nsid slba blocks → ⊥ = λ nsid slba blocks e. c.in_default.not-Write nsid slba blocks (c.read.ensures.command ∙ e) in
     let no_read : (nsid slba blocks : ℕ) → command_of a ≡ cmd.Read nsid slba blocks → ⊥ = λ nsid slba blocks e. c.in_default.not-Read nsid slba blocks (c.read.ensures.command ∙ e) in
     let no_send : (nsid slba act : ℕ) (option : Bool) → command_of a ≡ cmd.Send nsid slba act false option → ⊥ = λ nsid slba act option e. c.in_default.not-Send nsid slba act false option (c.read.ensures.command ∙ e) in
-    let is : (acts : List Act) → status g (answered g acts) a ≡ invalid_opcode = λ acts. unknown g (answered g acts) a c.requires.served no_write no_read no_send in
+    let no_append : (nsid zslba blocks : ℕ) → command_of a ≡ cmd.Append nsid zslba blocks → ⊥ = λ nsid zslba blocks e. c.in_default.not-Append nsid zslba blocks (c.read.ensures.command ∙ e) in
+    let no_flush : (nsid : ℕ) → command_of a ≡ cmd.Flush nsid → ⊥ = λ nsid e. c.in_default.not-Flush nsid (c.read.ensures.command ∙ e) in
+    let is : (acts : List Act) → status g (answered g acts) a ≡ invalid_opcode = λ acts. unknown g (answered g acts) a c.requires.served no_write no_read no_send no_append no_flush in
     record {
       status = λ acts s. sym (is acts);
       len = λ acts s. sym (ap length (refused_reply g (answered g acts) a (ap is_success (is acts))));
       read = λ acts s. rw (refused_reply g (answered g acts) a (ap is_success (is acts))) refl;
+      result = λ acts s. sym (refused_result g (answered g acts) a (ap is_success (is acts)));
       stand = λ acts s. target.refused g acts a c.args.cells.now c.args.limits.now (ap is_success (is acts)) s;
     }

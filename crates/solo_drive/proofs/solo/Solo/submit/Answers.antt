@@ -3,7 +3,7 @@ use Rattle.std.proofs.lemmas.List.{take_at}
 use Rattle.sqe_codec.specs.Commands.{cid_of}
 use Rattle.zone_model.specs.declared.act.Act.{Act}
 use Rattle.zone_model.specs.Answers.{answered, status}
-use Rattle.zone_model.specs.Entries.{acts_on, entries_on, posted, entry, no_result}
+use Rattle.zone_model.specs.Entries.{acts_on, entries_on, posted, entry, result_of}
 use Rattle.zone_model.proofs.Histories.{answered-push}
 use Rattle.solo_drive.specs.declared.tally.Tally.{Tally}
 use Rattle.solo_drive.specs.Drives.{Drive}
@@ -73,7 +73,8 @@ returns-clause-entries c =
     let acts_is : tally.acts ≡ acts_on c.args.queue h = ap (λ (t : Tally). t.acts) c.index_mut-tally.ensures.value ∙ c.self.invariant.queues.acts c.args.queue lt tally in
     let entries_is : tally.entries ≡ entries_on c.args.queue h = ap (λ (t : Tally). t.entries) c.index_mut-tally.ensures.value ∙ c.self.invariant.queues.entries c.args.queue lt tally in
     let code_is = c.serve-outcome.ensures.status acts before in
-    let own : c.post-own.result ≡ entry g c.args.queue (acts_on c.args.queue h + 1) (entries_on c.args.queue h) (cid_of c.args.sqe.bytes) (status g h a) no_result =
-    c.post-own.ensures.entry ∙ rw (acts_is, entries_is, c.cid.ensures, code_is) refl in
+    let result_is = c.serve-outcome.ensures.result acts before in
+    let own : c.post-own.result ≡ entry g c.args.queue (acts_on c.args.queue h + 1) (entries_on c.args.queue h) (cid_of c.args.sqe.bytes) (status g h a) (result_of g h a) =
+    c.post-own.ensures.entry ∙ rw (acts_is, entries_is, c.cid.ensures, code_is, ← result_is) refl in
     let P : Drive → Type 0 = λ d. c.push-2.new.self.items ≡ posted d.geometry (answered d.geometry d.acts) a in
     subst P c.self.view_is (c.push-2.ensures.items ∙ rw (c.new-entries.ensures, own) (sym (served_posted g h a c.requires.served)))
