@@ -1,0 +1,13 @@
+//! Zone Management Receive: the report of zones.
+#![tactic(auto)]
+
+mod checks;
+mod descriptors;
+mod filters;
+mod head;
+mod reporting;
+
+pub use reporting::report;
+
+#[cfg(test)]
+mod tests;

@@ -1,0 +1,328 @@
+ghost use Rattle.std.specs.Prelude.{◌≡◌, ◌≤◌, ◌+◌, ◌<◌, IfOk, length, All};
+ghost use Rattle.zone_cell.specs.Cells.{IsOf};
+
+use super::*;
+use sqe_codec::Cmd;
+use std::alloc::Global;
+use std::test::Fail;
+use zns_io::NoMemory;
+use zns_types::{Code, Geometry, GeometryFields};
+use zone_cell::ZoneCell;
+use zone_state::{Action, go};
+
+const SMALL: GeometryFields = GeometryFields {
+    block_exp: 9,
+    mdts: 0,
+    zasl: 0,
+    flags: 0,
+    zones: 4,
+    zone_size: 64,
+    capacity: 48,
+    active_limit: 0,
+    open_limit: 0,
+    windows: 0,
+    granule: 0,
+    window: 0,
+    queues: 2,
+    depth: 64,
+};
+
+// A report of all zones of 320 bytes.
+const ALL: Asked = Asked {
+    nsid: 1,
+    slba: 0,
+    bytes: 320,
+    action: 0,
+    filter: 0,
+    partial: false,
+};
+
+// What the room for a report held before.
+const KEPT: u8 = 0xee;
+
+// Not as a test expects.
+const WRONG: Code = Code::INVALID_OPCODE;
+
+// The fields of a Receive.
+#[derive(Clone, Copy, Debug)]
+struct Asked {
+    nsid: u32,
+    slba: u64,
+    bytes: u64,
+    action: u8,
+    filter: u8,
+    partial: bool,
+}
+
+// Turns a zone where its state allows that.
+fn turn(cell: &mut ZoneCell, g: &Geometry, action: Action)
+    requires { IsOf g.now.fields cell.old }
+    ensures { IsOf g.now.fields cell.new }
+{
+    if go(cell.state(), action).is_ok() {
+        cell.turn(g, action, false);
+    }
+}
+
+// A zone after an action, and if its number is odd after another one.
+fn zone_after(
+    alloc: Global,
+    g: &Geometry,
+    zone: u32,
+    first: Action,
+    odd: Action,
+) -> Result<ZoneCell, NoMemory>
+    requires { zone < g.now.fields.zones }
+    ensures { IfOk result (λ c. IsOf g.now.fields c) }
+{
+    let mut cell = ZoneCell::new(alloc, g, zone)?;
+    turn(&mut cell, g, first);
+    if zone % 2 == 1 {
+        turn(&mut cell, g, odd);
+    }
+    Ok(cell)
+}
+
+// All zones after an action each, and those with an odd number after another one.
+fn zones_after(
+    alloc: Global,
+    g: &Geometry,
+    first: Action,
+    odd: Action,
+) -> Result<Vec<ZoneCell>, NoMemory>
+    ensures len { IfOk result (λ cells. length cells.items ≡ g.now.fields.zones) }
+    ensures of { IfOk result (λ cells. All (IsOf g.now.fields) cells.items) }
+{
+    let mut cells = Vec::new(alloc);
+    for zone in 0..g.fields().zones {
+        let cell = zone_after(alloc, g, zone, first, odd)?;
+        cells.push(cell)?;
+    }
+    Ok(cells)
+}
+
+// The status of a Receive and the room after it.
+fn receive(cells: &[ZoneCell], g: &Geometry, asked: Asked) -> (Code, [u8; 320])
+    requires all { length cells.now ≡ g.now.fields.zones }
+    requires of { All (IsOf g.now.fields) cells.now }
+{
+    let mut out = [KEPT; 320];
+    if asked.bytes > 320 && asked.bytes <= g.greatest_transfer() {
+        return (WRONG, out);
+    }
+    let cmd = Cmd::Receive {
+        nsid: asked.nsid,
+        slba: asked.slba,
+        bytes: asked.bytes,
+        action: asked.action,
+        filter: asked.filter,
+        partial: asked.partial,
+    };
+    let code = report(cells, g, &cmd, &mut out);
+    (code, out)
+}
+
+// Writes the descriptor of a zone with no attributes: its state's byte, its first block, and its
+// pointer's eight bytes.
+fn show(out: &mut [u8; 320], place: usize, state: u8, first: u8, pointer: [u8; 8])
+    requires { place + 64 ≤ 320 }
+{
+    out[place] = 2;
+    out[place + 1] = state;
+    out[place + 8] = 48;
+    out[place + 16] = first;
+    out[place + 24..place + 32].copy_from_slice(&pointer);
+}
+
+// A pointer that is a byte.
+fn at(block: u8) -> [u8; 8] {
+    [block, 0, 0, 0, 0, 0, 0, 0]
+}
+
+// So many zeros behind a number of zones, and the rest as before.
+fn empty_report(bytes: usize, number: u8) -> [u8; 320]
+    requires { bytes ≤ 320 }
+{
+    let mut out = [KEPT; 320];
+    out[..bytes].fill(0);
+    if bytes > 0 {
+        out[0] = number;
+    }
+    out
+}
+
+#[test]
+fn reports_begin_at_the_zone_of_a_block(rt: HostRuntime) -> Result<(), Fail> {
+    let g = Geometry::new(SMALL)?;
+    let cells = zones_after(rt.alloc(), &g, Action::Reset, Action::Reset)?;
+    for (slba, partial, number) in [(64, false, 3), (127, false, 3), (64, true, 2)] {
+        let asked = Asked {
+            slba,
+            bytes: 192,
+            partial,
+            ..ALL
+        };
+        let mut expected = empty_report(192, number);
+        show(&mut expected, 64, 0x10, 64, at(64));
+        show(&mut expected, 128, 0x10, 128, at(128));
+        assert_eq!(rt;
+            receive(&cells, &g, asked),
+            (Code::SUCCESS, expected),
+            "{asked:?}"
+        );
+    }
+    Ok(())
+}
+
+#[test]
+fn reports_are_cut_to_their_length(rt: HostRuntime) -> Result<(), Fail> {
+    let g = Geometry::new(SMALL)?;
+    let cells = zones_after(rt.alloc(), &g, Action::Reset, Action::Reset)?;
+    for (bytes, partial, number) in [
+        (124, true, 0),
+        (124, false, 4),
+        (64, false, 4),
+        (8, false, 4),
+        (4, false, 4),
+        (4, true, 0),
+    ] {
+        let asked = Asked {
+            bytes,
+            partial,
+            ..ALL
+        };
+        let expected = empty_report(bytes as usize, number);
+        assert_eq!(rt;
+            receive(&cells, &g, asked),
+            (Code::SUCCESS, expected),
+            "{asked:?}"
+        );
+    }
+    Ok(())
+}
+
+// The numbers of zones that each filter finds, after an action to each zone.
+fn found(cells: &[ZoneCell], g: &Geometry) -> [u8; 8]
+    requires all { length cells.now ≡ g.now.fields.zones }
+    requires of { All (IsOf g.now.fields) cells.now }
+{
+    let mut found = [0; 8];
+    for filter in 0..8 {
+        let (_, out) = receive(
+            cells,
+            g,
+            Asked {
+                filter: filter as u8,
+                ..ALL
+            },
+        );
+        found[filter] = out[0];
+    }
+    found
+}
+
+#[test]
+fn filters_take_their_states(rt: HostRuntime) -> Result<(), Fail> {
+    let g = Geometry::new(SMALL)?;
+    for (first, odd, expected) in [
+        (Action::Reset, Action::Reset, [4, 4, 0, 0, 0, 0, 0, 0]),
+        (Action::Write, Action::Reset, [4, 2, 2, 0, 0, 0, 0, 0]),
+        (Action::Open, Action::Close, [4, 0, 0, 2, 2, 0, 0, 0]),
+        (
+            Action::Finish,
+            Action::Excursion(5),
+            [4, 0, 0, 0, 0, 2, 0, 2],
+        ),
+        (
+            Action::Excursion(4),
+            Action::Offline,
+            [4, 0, 0, 0, 0, 0, 2, 2],
+        ),
+    ] {
+        let cells = zones_after(rt.alloc(), &g, first, odd)?;
+        assert_eq!(rt; found(&cells, &g), expected, "{first:?} {odd:?}");
+    }
+    Ok(())
+}
+
+#[test]
+fn reports_leave_out_other_zones(rt: HostRuntime) -> Result<(), Fail> {
+    let g = Geometry::new(SMALL)?;
+    let cells = zones_after(rt.alloc(), &g, Action::Finish, Action::Reset)?;
+    for (partial, number) in [(false, 2), (true, 2)] {
+        let asked = Asked {
+            filter: 1,
+            partial,
+            ..ALL
+        };
+        let mut expected = empty_report(320, number);
+        show(&mut expected, 64, 0x10, 64, at(64));
+        show(&mut expected, 128, 0x10, 192, at(192));
+        assert_eq!(rt;
+            receive(&cells, &g, asked),
+            (Code::SUCCESS, expected),
+            "{asked:?}"
+        );
+    }
+    Ok(())
+}
+
+#[test]
+fn full_zones_show_no_pointer(rt: HostRuntime) -> Result<(), Fail> {
+    let g = Geometry::new(SMALL)?;
+    let cells = zones_after(rt.alloc(), &g, Action::Finish, Action::Finish)?;
+    let asked = Asked {
+        slba: 192,
+        filter: 5,
+        ..ALL
+    };
+    let mut expected = empty_report(320, 1);
+    show(&mut expected, 64, 0xe0, 192, [0xff; 8]);
+    assert_eq!(rt; receive(&cells, &g, asked), (Code::SUCCESS, expected));
+    Ok(())
+}
+
+#[test]
+fn refused_receives_keep_the_room(rt: HostRuntime) -> Result<(), Fail> {
+    let g = Geometry::new(SMALL)?;
+    let cells = zones_after(rt.alloc(), &g, Action::Reset, Action::Reset)?;
+    let field = Code { sct: 0, sc: 0x02 };
+    let range = Code { sct: 0, sc: 0x80 };
+    let space = Code { sct: 0, sc: 0x0b };
+    for (asked, code) in [
+        (Asked { filter: 8, ..ALL }, field),
+        (Asked { action: 1, ..ALL }, field),
+        (Asked { slba: 256, ..ALL }, range),
+        (Asked { nsid: 2, ..ALL }, space),
+        (
+            Asked {
+                bytes: 1 << 34,
+                ..ALL
+            },
+            field,
+        ),
+        (
+            Asked {
+                filter: 8,
+                slba: 256,
+                ..ALL
+            },
+            field,
+        ),
+        (
+            Asked {
+                nsid: 2,
+                action: 1,
+                ..ALL
+            },
+            space,
+        ),
+    ] {
+        assert_eq!(rt;
+            receive(&cells, &g, asked),
+            (code, [KEPT; 320]),
+            "{asked:?}"
+        );
+    }
+    Ok(())
+}
