@@ -1,5 +1,5 @@
 -- The states of a zone: Zoned Namespace Command Set Specification 1.1, 2.1.1.2 and 3.4.2.2.1 (zone descriptor).
-use Rattle.std.specs.Prelude.{ℕ, Bool, true, false}
+use Rattle.std.specs.Prelude.{ℕ, Bool, true, false, not, ◌&&◌}
 use Rattle.zns_types.specs.declared.state.State.{State}
 use Rattle.zns_types.specs.declared.state.State.TheVariants.{Empty, ImplicitlyOpened, ExplicitlyOpened, Closed, ReadOnly, Full, Offline}
 
@@ -23,6 +23,10 @@ is_empty = by_state true false false false false false false
 abbrev pub is_implicitly_opened : State → Bool
 is_implicitly_opened = by_state false true false false false false false
 
+abbrev pub is_explicitly_opened : State → Bool
+is_explicitly_opened = by_state false false true false false false false
+
+-- implicitly or explicitly
 abbrev pub is_opened : State → Bool
 is_opened = by_state false true true false false false false
 
@@ -41,3 +45,7 @@ is_read_only = by_state false false false false false true false
 
 abbrev pub is_offline : State → Bool
 is_offline = by_state false false false false false false true
+
+-- neither Read Only nor Offline
+abbrev pub is_writable : State → Bool
+is_writable s = not (is_read_only s) && not (is_offline s)

@@ -13,7 +13,7 @@ pub struct Geometry {
 
 impl Geometry {
     ghost use Rattle.std.specs.Prelude.{◌≡◌, ◌≤◌, ◌<◌, ◌^◌, Some, None, IfOk, IfErr, IsOk};
-    ghost use Rattle.zns_types.specs.Geometry.{block_len, all_blocks, greatest_transfer, first, zone_of};
+    ghost use Rattle.zns_types.specs.Geometry.{block_len, all_blocks, greatest_transfer, first, zone_of, offset_of};
     ghost use Rattle.zns_types.specs.Rules.{rules};
     ghost use Rattle.zns_types.specs.Rows.{first_holding};
 
@@ -70,6 +70,14 @@ impl Geometry {
         ensures within { result < self.now.fields.zones }
     {
         (lba / self.fields.zone_size) as u32
+    }
+
+    /// The place of a block in its zone.
+    pub fn offset_of(&self, lba: u64) -> u64
+        ensures exact { result ≡ offset_of self.now.fields lba }
+        ensures within { result < self.now.fields.zone_size }
+    {
+        lba % self.fields.zone_size
     }
 
     /// The most bytes that one command may move.

@@ -1,5 +1,5 @@
 ghost use Rattle.std.specs.Prelude.{◌≡◌, ◌≢◌, IfSome, IfNone};
-ghost use Rattle.zns_types.specs.States.{number_of};
+ghost use Rattle.zns_types.specs.States.{number_of, is_empty, is_implicitly_opened, is_opened, is_closed, is_active, is_full, is_read_only, is_offline, is_writable};
 ghost use Rattle.zns_types.specs.declared.state.State.{State};
 
 /// The state of a zone.
@@ -46,5 +46,71 @@ impl State {
             0xf => Some(State::Offline),
             _ => None,
         }
+    }
+
+    /// Whether nothing was written since the last reset, and the zone uses no resource.
+    pub fn is_empty(self) -> bool
+        ensures { result ≡ is_empty self }
+    {
+        matches!(self, State::Empty)
+    }
+
+    /// Whether a write, and no Open, opened the zone.
+    pub fn is_implicitly_opened(self) -> bool
+        ensures { result ≡ is_implicitly_opened self }
+    {
+        matches!(self, State::ImplicitlyOpened)
+    }
+
+    /// Whether the zone uses an open resource.
+    pub fn is_opened(self) -> bool
+        ensures { result ≡ is_opened self }
+    {
+        matches!(self, State::ImplicitlyOpened | State::ExplicitlyOpened)
+    }
+
+    /// Whether the zone is Closed.
+    pub fn is_closed(self) -> bool
+        ensures { result ≡ is_closed self }
+    {
+        matches!(self, State::Closed)
+    }
+
+    /// Whether the zone uses an active resource: it is opened or Closed.
+    pub fn is_active(self) -> bool
+        ensures { result ≡ is_active self }
+    {
+        matches!(
+            self,
+            State::ImplicitlyOpened | State::ExplicitlyOpened | State::Closed
+        )
+    }
+
+    /// Whether the zone is Full.
+    pub fn is_full(self) -> bool
+        ensures { result ≡ is_full self }
+    {
+        matches!(self, State::Full)
+    }
+
+    /// Whether the zone is Read Only.
+    pub fn is_read_only(self) -> bool
+        ensures { result ≡ is_read_only self }
+    {
+        matches!(self, State::ReadOnly)
+    }
+
+    /// Whether the zone is Offline.
+    pub fn is_offline(self) -> bool
+        ensures { result ≡ is_offline self }
+    {
+        matches!(self, State::Offline)
+    }
+
+    /// Whether the zone is neither Read Only nor Offline.
+    pub fn is_writable(self) -> bool
+        ensures { result ≡ is_writable self }
+    {
+        !matches!(self, State::ReadOnly | State::Offline)
     }
 }

@@ -1,6 +1,6 @@
 -- The resources of zones, and which want of them refuses a command: Zoned Namespace Command Set Specification 1.1,
 -- 2.1.1 (active and open resources), with random write areas by Technical Proposal 4076.
-use Rattle.std.specs.Prelude.{ℕ, ◌+◌, ◌-◌, ◌<◌, ◌≤◌, Bool, not, ◌&&◌, ◌==◌, nat_le, if◌then◌else◌, List, [], ◌∷◌}
+use Rattle.std.specs.Prelude.{ℕ, ◌+◌, ◌-◌, ◌<◌, ◌≤◌, Bool, false, not, ◌&&◌, ◌==◌, nat_le, if◌then◌else◌, List, [], ◌∷◌}
 use Rattle.zns_types.specs.declared.fields.GeometryFields.{GeometryFields}
 use Rattle.zns_types.specs.Statuses.{Status, too_many_active_zones, too_many_open_zones, zrwa_resources_unavailable}
 use Rattle.zns_types.specs.Rows.{Row, when}
@@ -15,15 +15,28 @@ at_limit limit count = not (limit == 0) && nat_le limit count
 abbrev pub windows_used_up : GeometryFields → ℕ → Bool
 windows_used_up g count = nat_le g.windows count
 
--- The wants that refuse, in their order. An open resource isn't wanting where a zone can be evicted.
+-- too many active zones
+abbrev pub no_active_left : GeometryFields → Limits → Need → Row Status
+no_active_left g counts need = when (need.active && at_limit g.active_limit counts.active) too_many_active_zones
+
+-- too many open zones, and none that can be closed for another
+abbrev pub no_open_left : GeometryFields → Limits → Need → Bool → Row Status
+no_open_left g counts need evictable = when (need.opened && at_limit g.open_limit counts.opened && not evictable) too_many_open_zones
+
+-- no random write area left
+abbrev pub no_window_left : GeometryFields → Limits → Need → Row Status
+no_window_left g counts need = when (need.window && windows_used_up g counts.windows) zrwa_resources_unavailable
+
+-- The wants that refuse, in their order. An open resource isn't wanting where a zone can be closed for it.
 abbrev pub need_rows : GeometryFields → Limits → Need → Bool → List (Row Status)
 need_rows g counts need evictable =
-    when (need.active && at_limit g.active_limit counts.active) too_many_active_zones
-    ∷ when (need.opened && at_limit g.open_limit counts.opened && not evictable) too_many_open_zones
-    ∷ when (need.window && windows_used_up g counts.windows) zrwa_resources_unavailable
-    ∷ []
+    no_active_left g counts need ∷ no_open_left g counts need evictable ∷ no_window_left g counts need ∷ []
 
--- a zone is to be evicted: one more is to be opened at the limit
+-- nothing is needed
+abbrev pub no_need : Need
+no_need = record { active = false; opened = false; window = false }
+
+-- a zone has to give way: one more is to be opened at the limit
 abbrev pub evicts : GeometryFields → Limits → Need → Bool
 evicts g counts need = need.opened && at_limit g.open_limit counts.opened
 
@@ -50,6 +63,10 @@ given_back counts need = record {
   opened = fewer need.opened counts.opened;
   windows = fewer need.window counts.windows;
 }
+
+-- the counts after what a zone uses has changed
+abbrev pub recounted : Need → Need → Limits → Limits
+recounted before after counts = taken (given_back counts before) after
 
 -- a count is within a limit; 0 is no limit
 abbrev pub IsWithin : ℕ → ℕ → Type 0

@@ -1,6 +1,6 @@
-ghost use Rattle.std.specs.Prelude.{◌≡◌, ◌↔◌, Some, None, IfErr, IfOk, IsOk};
+ghost use Rattle.std.specs.Prelude.{◌≡◌, ◌↔◌, ◌&&◌, not, Some, None, IfErr, IfOk, IsOk};
 ghost use Rattle.zns_types.specs.Rows.{first_holding};
-ghost use Rattle.zone_limits.specs.Resources.{at_limit, need_rows, evicts};
+ghost use Rattle.zone_limits.specs.Resources.{at_limit, no_active_left, need_rows, evicts};
 
 use crate::limits::{Grant, Limits, Need};
 use zns_types::{Code, Geometry};
@@ -31,4 +31,16 @@ pub fn need(limits: &Limits, g: &Geometry, need: Need, evictable: bool) -> Resul
         return Err(Code::ZRWA_RESOURCES_UNAVAILABLE);
     }
     Ok(Grant { evict })
+}
+
+/// Whether a zone has to give way for what a command needs: no active resource is wanting, and an
+/// open one is.
+pub fn wants_room(limits: &Limits, g: &Geometry, need: Need) -> bool
+    ensures { result
+        ≡ (not (no_active_left g.now.fields limits.now need).holds
+        && evicts g.now.fields limits.now need) }
+{
+    let fields = g.fields();
+    let no_active_left = need.active && at_limit(fields.active_limit, limits.active);
+    !no_active_left && need.opened && at_limit(fields.open_limit, limits.opened)
 }

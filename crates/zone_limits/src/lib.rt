@@ -7,6 +7,6 @@ mod taking;
 #[cfg(test)]
 mod tests;
 
-pub use asking::need;
+pub use asking::{need, wants_room};
 pub use limits::{Grant, Limits, Need};
 pub use taking::{give_back, take};

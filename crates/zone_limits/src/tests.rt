@@ -49,6 +49,24 @@ fn the_first_want_refuses(rt: HostRuntime) -> Result<(), Fail> {
 }
 
 #[test]
+fn another_zone_is_wanted_before_a_window_is(rt: HostRuntime) -> Result<(), Fail> {
+    let g = Geometry::new(SMALL)?;
+    for ((active, opened, windows), wants) in [
+        ((3, 2, 0), false),
+        ((2, 2, 1), true),
+        ((2, 1, 0), false),
+    ] {
+        let limits = Limits {
+            active,
+            opened,
+            windows,
+        };
+        assert_eq!(rt; wants_room(&limits, &g, ALL), wants, "at {limits:?}");
+    }
+    Ok(())
+}
+
+#[test]
 fn counts_come_back(rt: HostRuntime) -> Result<(), Fail> {
     let g = Geometry::new(SMALL)?;
     let mut limits = Limits::default();

@@ -21,16 +21,16 @@ pub record FewestGranules (g : GeometryFields) (pointer end new : ℕ) : Type 0 
   pub fewest : IsLeast (Suffices g pointer end) granules
 
 -- the last block to commit lies outside the area, or past the capacity
-abbrev pub flush_bounds : GeometryFields → ℕ → ℕ → Bool
-flush_bounds g pointer last = nat_lt last pointer || nat_lt (pointer + g.window - 1) last || nat_le g.capacity last
+abbrev pub commit_bounds : GeometryFields → ℕ → ℕ → Bool
+commit_bounds g pointer last = nat_lt last pointer || nat_lt (pointer + g.window - 1) last || nat_le g.capacity last
 
 -- the blocks to commit aren't whole granules
 abbrev pub cuts_granule : GeometryFields → ℕ → ℕ → Bool
 cuts_granule g pointer last = not ((last - pointer + 1) % g.granule == 0)
 
 -- What refuses an explicit commit, in order.
-abbrev pub flush_rows : GeometryFields → ℕ → ℕ → List (Row Status)
-flush_rows g pointer last =
-    when (flush_bounds g pointer last) zone_boundary_error
+abbrev pub commit_rows : GeometryFields → ℕ → ℕ → List (Row Status)
+commit_rows g pointer last =
+    when (commit_bounds g pointer last) zone_boundary_error
     ∷ when (cuts_granule g pointer last) invalid_field
     ∷ []

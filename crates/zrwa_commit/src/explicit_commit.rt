@@ -1,15 +1,15 @@
 ghost use Rattle.std.specs.Prelude.{◌≡◌, ◌+◌, ◌^◌, ◌<◌, ◌≤◌, ◌↔◌, Some, None, IfOk, IfErr, IsOk};
 ghost use Rattle.zns_types.specs.Rows.{first_holding};
-ghost use Rattle.zrwa_commit.specs.Windows.{flush_rows};
+ghost use Rattle.zrwa_commit.specs.Windows.{commit_rows};
 
 use zns_types::{Code, Geometry};
 
-/// The pointer after a flush of the blocks up to the offset `last`, or the status that refuses it.
+/// The pointer after a commit of the blocks up to the offset `last`, or the status that refuses it.
 pub fn explicit(p: u64, last: u64, g: &Geometry) -> Result<u64, Code>
     requires windows { 1 ≤ g.now.fields.windows }
     requires pointer { p < 2 ^ 32 }
-    ensures refused { IfErr result (λ code. first_holding (flush_rows g.now.fields p last) ≡ Some code) }
-    ensures admitted { IsOk result ↔ (first_holding (flush_rows g.now.fields p last) ≡ None) }
+    ensures refused { IfErr result (λ code. first_holding (commit_rows g.now.fields p last) ≡ Some code) }
+    ensures admitted { IsOk result ↔ (first_holding (commit_rows g.now.fields p last) ≡ None) }
     ensures pointer { IfOk result (λ new. new ≡ last + 1) }
 {
     let fields = g.fields();
