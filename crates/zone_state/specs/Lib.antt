@@ -1,4 +1,1 @@
 pub mod Transitions
-pub mod ZoneRows
-pub mod Blocks
-pub mod Shown

@@ -1,5 +1,5 @@
 -- The zone state machine: Zoned Namespace Command Set Specification 1.1, 2.1.1.2 and 2.1.1.3.
-use Rattle.std.specs.Prelude.{ℕ, Bool, true, false, ◌==◌, ◌&&◌, if◌then◌else◌, Result, Ok, Err, Option, Some, None}
+use Rattle.std.specs.Prelude.{ℕ, Bool, true, false, ◌==◌, ◌&&◌, if◌then◌else◌, Result, Ok, Err}
 use Rattle.zns_types.specs.declared.state.State.{State}
 use Rattle.zns_types.specs.declared.state.State.TheVariants.{Empty, ImplicitlyOpened, ExplicitlyOpened, Closed, ReadOnly, Full, Offline}
 use Rattle.zns_types.specs.States.{by_state}
@@ -44,7 +44,7 @@ excursion kind s =
 -- where an action leads from Empty, Implicitly Opened, Explicitly Opened, Closed, Full, Read Only and Offline
 abbrev pub go : Action → State → Result State Status
 go action.Write = by_state (Ok ImplicitlyOpened) (Ok ImplicitlyOpened) (Ok ExplicitlyOpened) (Ok ImplicitlyOpened) (Err zone_full) (Err zone_read_only) (Err zone_offline)
-go action.Flush = by_state (Err invalid_zone_operation) (Ok ImplicitlyOpened) (Ok ExplicitlyOpened) (Ok ImplicitlyOpened) (Err invalid_zone_operation) (Err invalid_zone_operation) (Err invalid_zone_operation)
+go action.Commit = by_state (Err invalid_zone_operation) (Ok ImplicitlyOpened) (Ok ExplicitlyOpened) (Ok ImplicitlyOpened) (Err invalid_zone_operation) (Err invalid_zone_operation) (Err invalid_zone_operation)
 go action.Open = by_state (Ok ExplicitlyOpened) (Ok ExplicitlyOpened) (Ok ExplicitlyOpened) (Ok ExplicitlyOpened) refused refused refused
 go action.Close = by_state refused (Ok Closed) (Ok Closed) (Ok Closed) refused refused refused
 go action.Finish = by_state (Ok Full) (Ok Full) (Ok Full) (Ok Full) (Ok Full) refused refused
@@ -56,13 +56,12 @@ go (action.Excursion kind) = excursion kind
 abbrev pub after : Action → State → State
 after a s = elim (go a s) [ Ok t ↦ t | Err _ ↦ s ]
 
--- a write or a flush, by which a zone may become full
+-- a write or a commit, by which a zone may become Full
 abbrev pub adds_blocks : Action → Bool
 adds_blocks action.Write = true
-adds_blocks action.Flush = true
+adds_blocks action.Commit = true
 adds_blocks _ = false
 
--- where an action, or none, leads; a write or a flush up to the capacity leads to Full
-abbrev pub moved : ℕ → Option Action → ℕ → State → State
-moved capacity None pointer s = s
-moved capacity (Some a) pointer s = if adds_blocks a && (pointer == capacity) then Full else after a s
+-- where an action leads a zone whose pointer is then at an offset; a write or a commit up to the capacity leads to Full
+abbrev pub state_after : ℕ → Action → ℕ → State → State
+state_after capacity a pointer s = if adds_blocks a && (pointer == capacity) then Full else after a s

@@ -5,7 +5,7 @@ pub enum Action {
     Write,
 
     /// Blocks of the random write area are committed.
-    Flush,
+    Commit,
 
     Open,
     Close,

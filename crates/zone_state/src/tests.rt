@@ -57,7 +57,7 @@ fn transitions(rt: HostRuntime) -> Result<(), Fail> {
             ],
         ),
         (
-            Action::Flush,
+            Action::Commit,
             [NONE, IMPLICIT, EXPLICIT, IMPLICIT, NONE, NONE, NONE],
         ),
         (

@@ -12,7 +12,7 @@ pub fn go(state: State, action: Action) -> Result<State, Code>
 {
     match action {
         Action::Write => after_write(state),
-        Action::Flush => after_flush(state),
+        Action::Commit => after_commit(state),
         Action::Open => match state {
             State::Full | State::ReadOnly | State::Offline => refused(),
             _ => Ok(State::ExplicitlyOpened),
@@ -56,8 +56,8 @@ fn after_write(state: State) -> Result<State, Code>
     }
 }
 
-fn after_flush(state: State) -> Result<State, Code>
-    ensures { result ≡ table action.Flush state }
+fn after_commit(state: State) -> Result<State, Code>
+    ensures { result ≡ table action.Commit state }
 {
     match state {
         State::ImplicitlyOpened | State::Closed => Ok(State::ImplicitlyOpened),

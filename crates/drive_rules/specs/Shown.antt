@@ -1,14 +1,10 @@
 -- What a zone descriptor shows of a zone: Zoned Namespace Command Set Specification 1.1, 3.4.2.2.1.
 use Rattle.std.specs.Prelude.{ℕ, ◌+◌, ◌*◌, ◌-◌, ◌^◌, Bool, not, ◌&&◌, if◌then◌else◌}
 use Rattle.zns_types.specs.declared.state.State.{State}
-use Rattle.zns_types.specs.States.{is_full, is_read_only, is_offline}
+use Rattle.zns_types.specs.States.{is_full, is_writable}
 
 abbrev pub one : Bool → ℕ
 one b = if b then 1 else 0
-
--- neither Read Only nor Offline
-abbrev pub is_writable : State → Bool
-is_writable s = not (is_read_only s) && not (is_offline s)
 
 -- all ones, where a pointer means nothing
 abbrev pub no_pointer : ℕ

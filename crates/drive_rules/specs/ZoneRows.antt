@@ -21,7 +21,7 @@ pub record Zone : Type 0 where
 abbrev pub closed_to_writes : State → List (Row Status) → List (Row Status)
 closed_to_writes s more = when (is_full s) zone_full ∷ when (is_read_only s) zone_read_only ∷ when (is_offline s) zone_offline ∷ more
 
--- a write starts at the pointer; with a random write area it starts there or behind, and ends within two windows
+-- a Write starts at the pointer; with a random write area it starts at or after it, and ends within two windows
 abbrev pub is_misplaced : GeometryFields → Zone → ℕ → ℕ → Bool
 is_misplaced g zone start end =
     if zone.window then not (is_admitted g zone.pointer start end) else not (start == zone.pointer)
@@ -54,7 +54,7 @@ open_rows g zone asks_window =
     ∷ when (asks_window && not (zone.pointer % g.granule == 0)) invalid_zone_operation
     ∷ []
 
--- a flush of the random write area up to a last block
-abbrev pub flush_rows : GeometryFields → Zone → ℕ → List (Row Status)
-flush_rows g zone last =
-    when (not zone.window) invalid_zone_operation ∷ area.flush_rows g zone.pointer last
+-- a commit of the random write area up to a last block
+abbrev pub commit_rows : GeometryFields → Zone → ℕ → List (Row Status)
+commit_rows g zone last =
+    when (not zone.window) invalid_zone_operation ∷ area.commit_rows g zone.pointer last
