@@ -11,7 +11,7 @@ use Rattle.std.proofs.lemmas.Nat.{mul-le, row_fits}
 use Rattle.std.proofs.lemmas.Bool.{cases_lt, le-leb, lt-ltb, lt-leb, le-ltb, and_left, and_right, and_from}
 use Rattle.zrwa_window.specs.Marks.{marked}
 use Rattle.zrwa_window.proofs.MarkLists.{length-marked, get_or-marked}
-use Rattle.zone_state.specs.Blocks.{block_at}
+use Rattle.drive_rules.specs.Blocks.{block_at}
 use Rattle.zone_cell.specs.Cells.{with_blocks}
 use Rattle.zone_cell.specs.Kept.{kept_block, kept_blocks}
 

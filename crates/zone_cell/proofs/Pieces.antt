@@ -7,7 +7,7 @@ use borrow.Rule.Slice.PartMut.{put_mid}
 use Rattle.std.proofs.lemmas.List.{map-id, flat_map_more, take-append-drop, take-take, drop-take, drop_more, take_at, drop_at, drop-drop, append_assoc, length-append, length-drop}
 use Rattle.std.proofs.lemmas.List.Sums.{sum_by-cons}
 use Rattle.std.proofs.lemmas.List.FromFn.{map-range_with_len_more}
-use Rattle.zone_state.specs.Blocks.{block_at, seen_block}
+use Rattle.drive_rules.specs.Blocks.{block_at, seen_block}
 use Rattle.zone_cell.specs.Kept.{kept_blocks}
 use Rattle.zone_cell.proofs.Blocks.{get_or-kept}
 

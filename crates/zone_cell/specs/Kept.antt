@@ -1,7 +1,7 @@
 -- How the blocks of a cell lie in its bytes: one after another, each with a mark that tells whether it was written.
 use Rattle.std.specs.Prelude.{◌≡◌, ℕ, ◌*◌, ◌^◌, ◌≤◌, Bool, false, if◌then◌else◌, List, length, map, slice_index_or, Option, Some, None}
 use Rattle.std.specs.List.{range_with_len}
-use Rattle.zone_state.specs.Blocks.{block_at}
+use Rattle.drive_rules.specs.Blocks.{block_at}
 
 -- a block of the bytes, where it is marked
 abbrev pub kept_block : ℕ → List ℕ → List Bool → ℕ → Option (List ℕ)

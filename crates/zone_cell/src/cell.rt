@@ -1,12 +1,8 @@
-ghost use Rattle.std.specs.Prelude.{◌≡◌, ℕ, ◌+◌, ◌*◌, ◌<◌, ◌≤◌, ◌^◌, ◌||◌, ◌==◌, IfOk, length, None, slice_index_or, option_copied, is_some, IfSome, IsSome, map};
+ghost use Rattle.std.specs.Prelude.{◌≡◌, ◌+◌, ◌*◌, ◌<◌, ◌≤◌, ◌^◌, ◌||◌, IfOk, length, None, slice_index_or, option_copied, is_some, IfSome, IsSome, map};
 ghost use Rattle.zns_types.specs.declared.fields.GeometryFields.{GeometryFields};
 ghost use Rattle.zns_types.specs.Geometry.{block_len};
-ghost use Rattle.zone_state.specs.Shown.{attribute_bits};
-ghost use Rattle.zone_cell.specs.Cells.{IsOf, IsBlocks, fresh, cleared, led, with_blocks, count_of, bytes_at};
-ghost use Rattle.zone_cell.specs.Kept.{kept_blocks};
-ghost use Rattle.zrwa_window.specs.Marks.{holes};
+ghost use Rattle.zone_cell.specs.Cells.{IsOf, IsBlocks, fresh, after_reset, in_state, with_note, with_data, count_of, bytes_at, AreWritten, HoldsBlocks, attributes_of};
 
-use crate::states::{is_active, is_writable};
 use std::alloc::Global;
 use std::marker::Model;
 use zns_io::NoMemory;
@@ -106,7 +102,7 @@ impl ZoneCell {
     /// The bits that a zone descriptor shows: finished by the controller, a finish recommended, a
     /// reset recommended, and that the zone has a random write area.
     pub(crate) fn attributes(&self) -> u8
-        ensures { result ≡ attribute_bits self.now.finished self.now.finish_recommended self.now.reset_recommended self.now.window }
+        ensures { result ≡ attributes_of self.now }
     {
         u8::from(self.finished)
             + 2 * u8::from(self.finish_recommended)
@@ -135,14 +131,14 @@ impl ZoneCell {
     /// Leads the zone to a state, with its pointer there. What the state has no use for ends.
     pub(crate) fn lead(&mut self, state: State, pointer: u64)
         requires { pointer ≤ length self.old.blocks }
-        ensures { self.new ≡ led state pointer self.old }
+        ensures { self.new ≡ in_state state pointer self.old }
     {
         self.state = state;
         self.pointer = pointer;
-        self.window = self.window && is_active(state);
-        self.finished = self.finished && is_writable(state);
-        self.finish_recommended = self.finish_recommended && is_active(state);
-        self.reset_recommended = self.reset_recommended && is_writable(state);
+        self.window = self.window && state.is_active();
+        self.finished = self.finished && state.is_writable();
+        self.finish_recommended = self.finish_recommended && state.is_active();
+        self.reset_recommended = self.reset_recommended && state.is_writable();
     }
 
     /// Gives the zone a random write area where one is asked for.
@@ -154,7 +150,7 @@ impl ZoneCell {
 
     /// Notes what an excursion of a kind recommends, or that it finished the zone.
     pub(crate) fn note(&mut self, kind: u8)
-        ensures { self.new ≡ record self.old { finished = self.old.finished || (kind == 1); finish_recommended = self.old.finish_recommended || (kind == 2); reset_recommended = self.old.reset_recommended || (kind == 3) } }
+        ensures { self.new ≡ with_note kind self.old }
     {
         self.finished |= kind == 1;
         self.finish_recommended |= kind == 2;
@@ -163,7 +159,7 @@ impl ZoneCell {
 
     /// Makes the zone Empty, as after a reset.
     pub fn clear(&mut self)
-        ensures cleared { self.new ≡ cleared self.old }
+        ensures reset { self.new ≡ after_reset self.old }
         ensures kept { (g : GeometryFields) → IsOf g self.old → IsOf g self.new }
     {
         self.state = State::Empty;
@@ -179,7 +175,7 @@ impl ZoneCell {
     pub(crate) fn store(&mut self, from: u64, payload: &[u8])
         requires blocks { IsBlocks self.old.block_len payload.now }
         requires within { from + count_of self.old payload.now ≤ length self.old.blocks }
-        ensures { self.new ≡ record self.old { blocks = with_blocks self.old.block_len from payload.now self.old.blocks } }
+        ensures { self.new ≡ with_data from payload.now self.old }
     {
         let count = payload.len() / self.block_len as usize;
         let place = self.place(from);
@@ -210,7 +206,7 @@ impl ZoneCell {
         requires { from < 2 ^ 32 }
         ensures bytes { IfSome result (λ bytes. bytes.now ≡ bytes_at self.now from count) }
         ensures len { IfSome result (λ bytes. length bytes.now ≡ count * self.now.block_len) }
-        ensures whole { from + count ≤ length self.now.blocks → holes (map is_some self.now.blocks) from (from + count) ≡ 0 → IsSome result }
+        ensures whole { AreWritten self.now from count → IsSome result }
     {
         let end = from + u64::from(count);
         if end > u64::from(self.written.len()) {
@@ -227,7 +223,7 @@ impl ZoneCell {
     pub fn bytes(&self, g: &Geometry) -> &[u8]
         requires { IsOf g.now.fields self.now }
         ensures len { length result.now ≡ g.now.fields.capacity * block_len g.now.fields }
-        ensures blocks { self.now.blocks ≡ kept_blocks self.now.block_len result.now (map is_some self.now.blocks) }
+        ensures blocks { HoldsBlocks self.now result.now }
     {
         &self.bytes[..all_bytes(g)]
     }

@@ -1,18 +1,29 @@
-ghost use Rattle.std.specs.Prelude.{◌≡◌, ◌+◌, ◌<◌, ◌^◌, List, Some, None, OnOk, IfErr};
-ghost use Rattle.zns_types.specs.Rows.{Row, first_holding};
-ghost use Rattle.zns_types.specs.Statuses.{Status};
-ghost use Rattle.zone_state.specs.ZoneRows.{closed_to_writes, is_misplaced, write_rows, append_rows};
-ghost use Rattle.zone_cell.specs.Cells.{TakesWrites, sight, checked, need_of};
+ghost use Rattle.std.specs.Prelude.{◌≡◌, ◌+◌, ◌<◌, ◌^◌, OnOk, IfErr};
+ghost use Rattle.drive_rules.specs.declared.deed.Deed.TheVariants as deed;
+ghost use Rattle.drive_rules.specs.ZoneRows.{is_misplaced};
+ghost use Rattle.drive_rules.specs.Deeds.{need_for};
+ghost use Rattle.zone_cell.specs.Cells.{IsOf, TakesWrites, sight};
+ghost use Rattle.zone_cell.specs.Deeds.{judgement, state_judgement, ClosesBy, HasSmallOffset};
 
 use crate::cell::ZoneCell;
+use crate::states::action_of;
+use drive_rules::Deed;
 use zns_types::{Code, Geometry, State};
 use zone_limits::Need;
-use zrwa_commit::admits;
+use zone_state::{Action, go};
+use zrwa_commit::{admits, explicit};
+
+// No resource.
+const NOTHING: Need = Need {
+    active: false,
+    opened: false,
+    window: false,
+};
 
 // The status by which a state refuses every write.
 fn open_to_writes(state: State) -> Result<(), Code>
     ensures open { OnOk result (TakesWrites state) }
-    ensures closed { IfErr result (λ code. (more : List (Row Status)) → first_holding (closed_to_writes state more) ≡ Some code) }
+    ensures closed { IfErr result (ClosesBy state) }
 {
     match state {
         State::Full => Err(Code::ZONE_FULL),
@@ -23,11 +34,26 @@ fn open_to_writes(state: State) -> Result<(), Code>
 }
 
 impl ZoneCell {
+    /// The status by which the zone refuses a deed, or what the deed needs.
+    pub fn check(&self, g: &Geometry, deed: Deed) -> Result<Need, Code>
+        requires of { IsOf g.now.fields self.now }
+        requires offset { HasSmallOffset deed }
+        ensures { result ≡ judgement g.now.fields deed self.now }
+    {
+        match deed {
+            Deed::Write { from, blocks } => self.check_write(g, from, blocks),
+            Deed::Append { blocks } => self.check_append(g, blocks),
+            Deed::Open { window } => self.check_open(g, window),
+            Deed::Commit { last } => self.check_commit(g, last),
+            _ => self.check_state(action_of(deed)),
+        }
+    }
+
     /// The status by which the zone refuses a Write of `count` blocks from the offset `from` on, or
     /// what the Write needs.
     pub fn check_write(&self, g: &Geometry, from: u64, count: u32) -> Result<Need, Code>
         requires { from < 2 ^ 32 }
-        ensures { result ≡ checked (first_holding (write_rows g.now.fields (sight self.now) from count)) (need_of self.now.state) }
+        ensures { result ≡ judgement g.now.fields (deed.Write from count) self.now }
     {
         open_to_writes(self.state())?;
         if self.is_misplaced(g, from, count) {
@@ -41,7 +67,7 @@ impl ZoneCell {
 
     /// The status by which the zone refuses an Append of `count` blocks, or what the Append needs.
     pub fn check_append(&self, g: &Geometry, count: u32) -> Result<Need, Code>
-        ensures { result ≡ checked (first_holding (append_rows g.now.fields (sight self.now) count)) (need_of self.now.state) }
+        ensures { result ≡ judgement g.now.fields (deed.Append count) self.now }
     {
         open_to_writes(self.state())?;
         if self.has_window() {
@@ -51,6 +77,50 @@ impl ZoneCell {
             return Err(Code::ZONE_BOUNDARY_ERROR);
         }
         Ok(self.need())
+    }
+
+    // The status by which the zone refuses an Open, or what the Open needs.
+    fn check_open(&self, g: &Geometry, window: bool) -> Result<Need, Code>
+        ensures { result ≡ judgement g.now.fields (deed.Open window) self.now }
+    {
+        if go(self.state(), Action::Open).is_err() {
+            return Err(Code::INVALID_ZONE_STATE_TRANSITION);
+        }
+        if window && g.fields().windows == 0 {
+            return Err(Code::INVALID_ZONE_OPERATION);
+        }
+        if window && self.pointer() % u64::from(g.fields().granule) != 0 {
+            return Err(Code::INVALID_ZONE_OPERATION);
+        }
+        Ok(Need {
+            window: window && !self.has_window(),
+            ..self.need()
+        })
+    }
+
+    // The status by which the zone refuses a commit up to a last block, or what the commit needs.
+    fn check_commit(&self, g: &Geometry, last: u64) -> Result<Need, Code>
+        requires { IsOf g.now.fields self.now }
+        ensures { result ≡ judgement g.now.fields (deed.Commit last) self.now }
+    {
+        if !self.has_window() {
+            return Err(Code::INVALID_ZONE_OPERATION);
+        }
+        explicit(self.pointer(), last, g)?;
+        Ok(Need {
+            opened: self.state().is_closed(),
+            ..NOTHING
+        })
+    }
+
+    // The status by which the zone's state refuses an action that needs nothing.
+    fn check_state(&self, action: Action) -> Result<Need, Code>
+        ensures { result ≡ state_judgement action self.now.state }
+    {
+        if go(self.state(), action).is_err() {
+            return Err(Code::INVALID_ZONE_STATE_TRANSITION);
+        }
+        Ok(NOTHING)
     }
 
     // Whether a Write starts elsewhere than at the pointer, or misses the random write area.
@@ -65,14 +135,14 @@ impl ZoneCell {
         }
     }
 
-    // What a write needs.
+    // What makes the zone opened.
     fn need(&self) -> Need
-        ensures { result ≡ need_of self.now.state }
+        ensures { result ≡ need_for (deed.Append 1) (sight self.now) }
     {
-        let empty = self.state() == State::Empty;
+        let state = self.state();
         Need {
-            active: empty,
-            opened: empty || self.state() == State::Closed,
+            active: state.is_empty(),
+            opened: state.is_empty() || state.is_closed(),
             window: false,
         }
     }

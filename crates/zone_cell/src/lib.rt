@@ -1,6 +1,7 @@
 //! One zone: its state, its write pointer, and the bytes of its blocks.
 #![tactic(auto)]
 
+mod acting;
 mod cell;
 mod checks;
 mod reads;

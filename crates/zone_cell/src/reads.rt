@@ -1,13 +1,13 @@
-ghost use Rattle.std.specs.Prelude.{◌≡◌, ◌+◌, ◌*◌, ◌≤◌, None, length, slice_index_or};
-ghost use Rattle.zone_state.specs.Blocks.{seen_block};
-ghost use Rattle.zone_cell.specs.Cells.{IsOf, bytes_at};
+ghost use Rattle.std.specs.Prelude.{◌≡◌, ◌+◌, ◌*◌, ◌≤◌, length};
+ghost use Rattle.zone_cell.specs.Cells.{IsOf, seen_at, bytes_at};
 
 use crate::cell::ZoneCell;
 use zns_types::Geometry;
 
 impl ZoneCell {
-    /// Fills `out` with the bytes of `count` blocks from the offset `from` on: zeros for a block that
-    /// wasn't written since the last reset, and for those between the capacity and the zone's size.
+    /// Fills `out` with the bytes of `count` blocks from the offset `from` on: zeros for a block
+    /// that wasn't written since the last reset, and for those between the capacity and the zone's
+    /// size.
     pub fn get(&self, g: &Geometry, from: u64, count: u32, out: &mut [u8])
         requires kept { IsOf g.now.fields self.now }
         requires within { from + count ≤ g.now.fields.zone_size }
@@ -27,7 +27,7 @@ impl ZoneCell {
     // Fills `out` with the bytes of one block.
     fn get_block(&self, block: u64, out: &mut [u8])
         requires { length out.old ≡ self.now.block_len }
-        ensures { out.new ≡ seen_block self.now.block_len (slice_index_or self.now.blocks block None) }
+        ensures { out.new ≡ seen_at self.now block }
     {
         match self.block(block) {
             Some(bytes) => out.copy_from_slice(bytes),

@@ -1,10 +1,9 @@
 ghost use Rattle.std.specs.Prelude.{◌≡◌, ◌<◌, ◌^◌};
-ghost use Rattle.zone_state.specs.Shown.{shown_pointer};
+ghost use Rattle.drive_rules.specs.Shown.{shown_pointer};
 ghost use Rattle.zone_cell.specs.Cells.{IsOf, descriptor_of};
 
 use crate::cell::ZoneCell;
-use crate::states::is_writable;
-use zns_types::{Geometry, State};
+use zns_types::Geometry;
 use zone_descriptor::Descriptor;
 
 // The pointer means nothing.
@@ -32,7 +31,7 @@ impl ZoneCell {
         ensures { result ≡ shown_pointer self.now.state first self.now.pointer }
     {
         let state = self.state();
-        if state != State::Full && is_writable(state) {
+        if !state.is_full() && state.is_writable() {
             first + self.pointer()
         } else {
             NO_POINTER

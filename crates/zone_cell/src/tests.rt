@@ -1,14 +1,13 @@
 ghost use Rattle.std.specs.Prelude.{IsTrue};
-ghost use Rattle.zone_cell.specs.Cells.{IsOf, HasSoundWindow};
+ghost use Rattle.zone_cell.specs.Cells.{IsOf};
+ghost use Rattle.zone_cell.specs.Deeds.{HasBlocks, IsBlocksFor, HasSmallOffset};
 
 use super::*;
-use crate::states::is_active;
+use drive_rules::Deed;
 use std::alloc::Global;
 use std::test::Fail;
 use zns_io::Bytes;
 use zns_types::{Code, Geometry, GeometryFields, State};
-use zone_state::Action;
-use zrwa_commit::explicit;
 
 // Random write areas of 8 blocks, committed by 4, in zones of 48 blocks.
 const SMALL: GeometryFields = GeometryFields {
@@ -28,33 +27,33 @@ const SMALL: GeometryFields = GeometryFields {
     depth: 64,
 };
 
-// What is done to a zone.
+// What is done to a zone, or asked of it.
 #[derive(Clone, Copy, Debug)]
 enum Step {
-    // An Open with a random write area.
-    Open,
-    Reset,
-
-    // From an offset on, so many blocks of one byte.
-    Write(u32, u32, u8),
-    Append(u32, u8),
-    Flush(u32),
+    // A deed, with host data of one byte.
+    Do(Deed, u8),
 
     // Whether so many blocks from an offset on are of one byte.
     Read(u32, u32, u8),
 
     // Whether the zone is in a state, with a random write area or without.
     Is(State, bool),
+
+    // Whether a descriptor of the zone shows these attributes.
+    Shows(u8),
+
+    // Whether the bytes of all blocks have a byte where a block begins.
+    Holds(u32, u8),
 }
 
-use Step::{Append, Flush, Is, Open, Read, Reset, Write};
+use Step::{Do, Holds, Is, Read, Shows};
 
 // A step, its status, and the pointer after it.
 type Row = (Step, Code, u64);
 
 const DONE: Code = Code { sct: 0, sc: 0 };
 
-const NO_WRITES_BESIDE: Code = Code { sct: 1, sc: 0xb6 };
+const NO_OPERATION: Code = Code { sct: 1, sc: 0xb6 };
 
 const PAST_CAPACITY: Code = Code { sct: 1, sc: 0xb8 };
 
@@ -62,84 +61,69 @@ const FULL: Code = Code { sct: 1, sc: 0xb9 };
 
 const MISPLACED: Code = Code { sct: 1, sc: 0xbc };
 
+const NO_TRANSITION: Code = Code { sct: 1, sc: 0xbf };
+
 // Not as a test expects.
 const WRONG: Code = Code::INVALID_OPCODE;
 
-fn open(cell: &mut ZoneCell, g: &Geometry) -> Code
-    requires { IsOf g.now.fields cell.old }
-    ensures { IsOf g.now.fields cell.new }
+// An Open with a random write area.
+const OPEN: Step = Do(Deed::Open { window: true }, 0);
+
+const RESET: Step = Do(Deed::Reset, 0);
+
+fn write(from: u64, blocks: u32, byte: u8) -> Step {
+    Do(Deed::Write { from, blocks }, byte)
+}
+
+fn append(blocks: u32, byte: u8) -> Step {
+    Do(Deed::Append { blocks }, byte)
+}
+
+fn commit(last: u64) -> Step {
+    Do(Deed::Commit { last }, 0)
+}
+
+fn excursion(kind: u8) -> Step {
+    Do(Deed::Excursion { kind }, 0)
+}
+
+// Whether host data is of so many blocks, of one at least.
+fn has_blocks(g: &Geometry, blocks: u32, payload: &[u8]) -> bool
+    ensures { IsTrue result → HasBlocks g.now.fields blocks payload.now }
 {
-    if cell.pointer() != 0 || is_active(cell.state()) || g.fields().windows == 0 {
-        return WRONG;
-    }
-    match zone_state::go(cell.state(), Action::Open) {
-        Err(code) => code,
-        Ok(_) => {
-            cell.turn(g, Action::Open, true);
-            DONE
-        }
+    blocks > 0 && payload.len() as u64 == u64::from(blocks) * u64::from(g.block_len())
+}
+
+// Whether host data is what a deed comes with.
+fn is_supplied(g: &Geometry, deed: Deed, payload: &[u8]) -> bool
+    ensures blocks { IsTrue result → IsBlocksFor g.now.fields deed payload.now }
+    ensures offset { IsTrue result → HasSmallOffset deed }
+{
+    match deed {
+        Deed::Write { from, blocks } => from < 1 << 32 && has_blocks(g, blocks, payload),
+        Deed::Append { blocks } => has_blocks(g, blocks, payload),
+        _ => true,
     }
 }
 
-// Whether the pointer is where a random write area may begin.
-fn is_on_granule(cell: &ZoneCell, g: &Geometry) -> bool
-    ensures { IsTrue result → HasSoundWindow g.now.fields cell.now }
-{
-    let granule = u64::from(g.fields().granule);
-    !cell.has_window() || (g.fields().windows > 0 && cell.pointer() % granule == 0)
-}
-
-fn write(cell: &mut ZoneCell, g: &Geometry, from: u32, data: &[u8]) -> Code
-    requires { IsOf g.now.fields cell.old }
-    ensures { IsOf g.now.fields cell.new }
-{
-    let len = g.block_len() as usize;
-    let count = data.len() / len;
-    if count == 0 || count > 64 || count * len != data.len() || !is_on_granule(cell, g) {
-        return WRONG;
-    }
-    match cell.check_write(g, u64::from(from), count as u32) {
-        Err(code) => code,
-        Ok(_) => {
-            cell.put(g, u64::from(from), data);
-            DONE
-        }
+fn blocks_of(deed: Deed) -> u32 {
+    match deed {
+        Deed::Write { blocks, .. } | Deed::Append { blocks } => blocks,
+        _ => 0,
     }
 }
 
-fn append(cell: &mut ZoneCell, g: &Geometry, data: &[u8]) -> Code
+fn serve(cell: &mut ZoneCell, g: &Geometry, deed: Deed, payload: &[u8]) -> Code
     requires { IsOf g.now.fields cell.old }
     ensures { IsOf g.now.fields cell.new }
 {
-    let len = g.block_len() as usize;
-    let count = data.len() / len;
-    if count == 0 || count > 64 || count * len != data.len() {
+    if !is_supplied(g, deed, payload) {
         return WRONG;
     }
-    match cell.check_append(g, count as u32) {
+    match cell.check(g, deed) {
         Err(code) => code,
         Ok(_) => {
-            let pointer = cell.pointer();
-            if cell.append(g, data) == pointer {
-                DONE
-            } else {
-                WRONG
-            }
-        }
-    }
-}
-
-fn flush(cell: &mut ZoneCell, g: &Geometry, last: u32) -> Code
-    requires { IsOf g.now.fields cell.old }
-    ensures { IsOf g.now.fields cell.new }
-{
-    if !cell.has_window() || !is_active(cell.state()) || g.fields().windows == 0 {
-        return WRONG;
-    }
-    match explicit(cell.pointer(), u64::from(last), g) {
-        Err(code) => code,
-        Ok(_) => {
-            cell.commit(g, u64::from(last));
+            cell.act(g, deed, payload);
             DONE
         }
     }
@@ -152,43 +136,32 @@ fn read(
     from: u32,
     count: u32,
     byte: u8,
-) -> Result<Code, Fail>
+) -> Result<bool, Fail>
     requires { IsOf g.now.fields cell.now }
 {
     if u64::from(from) + u64::from(count) > g.fields().zone_size {
-        return Ok(WRONG);
+        return Ok(false);
     }
     let mut out = vec![in alloc; 0xee; count as usize * g.block_len() as usize]?;
     cell.get(g, u64::from(from), count, &mut out);
-    let same = out.iter().all(|x| *x == byte);
-    Ok(if same { DONE } else { WRONG })
+    Ok(out.iter().all(|x| *x == byte))
 }
 
 fn take(alloc: Global, cell: &mut ZoneCell, g: &Geometry, step: Step) -> Result<Code, Fail>
     requires { IsOf g.now.fields cell.old }
     ensures { IsOf g.now.fields cell.new }
 {
-    match step {
-        Open => Ok(open(cell, g)),
-        Reset => {
-            cell.clear();
-            Ok(DONE)
+    let same = match step {
+        Do(deed, byte) => {
+            let data = Bytes::filled(alloc, blocks_of(deed).wrapping_mul(512), byte)?;
+            return Ok(serve(cell, g, deed, data.as_slice()));
         }
-        Write(from, count, byte) => {
-            let data = Bytes::filled(alloc, count.wrapping_mul(512), byte)?;
-            Ok(write(cell, g, from, data.as_slice()))
-        }
-        Append(count, byte) => {
-            let data = Bytes::filled(alloc, count.wrapping_mul(512), byte)?;
-            Ok(append(cell, g, data.as_slice()))
-        }
-        Flush(last) => Ok(flush(cell, g, last)),
-        Read(from, count, byte) => read(alloc, cell, g, from, count, byte),
-        Is(state, window) => {
-            let same = cell.state() == state && cell.has_window() == window;
-            Ok(if same { DONE } else { WRONG })
-        }
-    }
+        Read(from, count, byte) => read(alloc, cell, g, from, count, byte)?,
+        Is(state, window) => cell.state() == state && cell.has_window() == window,
+        Shows(attributes) => cell.descriptor(g).attributes == attributes,
+        Holds(block, byte) => cell.bytes(g).get(block as usize * 512) == Some(&byte),
+    };
+    Ok(if same { DONE } else { WRONG })
 }
 
 // The first row that goes otherwise, on a zone to which nothing was done.
@@ -207,19 +180,19 @@ fn first_wrong(alloc: Global, rows: &[Row]) -> Result<Option<usize>, Fail> {
 #[test]
 fn writes_move_the_window(rt: HostRuntime) -> Result<(), Fail> {
     let again = [
-        (Open, DONE, 0),
-        (Write(4, 2, 0x11), DONE, 0),
-        (Write(4, 2, 0x22), DONE, 0),
+        (OPEN, DONE, 0),
+        (write(4, 2, 0x11), DONE, 0),
+        (write(4, 2, 0x22), DONE, 0),
         (Read(4, 2, 0x22), DONE, 0),
         (Read(0, 4, 0), DONE, 0),
     ];
-    let past_the_window = [(Open, DONE, 0), (Write(8, 1, 0x44), DONE, 4)];
-    let to_two_windows = [(Open, DONE, 0), (Write(15, 1, 0x44), DONE, 8)];
+    let past_the_window = [(OPEN, DONE, 0), (write(8, 1, 0x44), DONE, 4)];
+    let to_two_windows = [(OPEN, DONE, 0), (write(15, 1, 0x44), DONE, 8)];
     let past_two_windows = [
-        (Open, DONE, 0),
-        (Write(16, 1, 0x44), MISPLACED, 0),
+        (OPEN, DONE, 0),
+        (write(16, 1, 0x44), MISPLACED, 0),
         (Read(0, 64, 0), DONE, 0),
-        (Append(1, 0x55), NO_WRITES_BESIDE, 0),
+        (append(1, 0x55), NO_OPERATION, 0),
         (Is(State::ExplicitlyOpened, true), DONE, 0),
     ];
     assert_eq!(rt; first_wrong(rt.alloc(), &again)?, None, "again");
@@ -242,36 +215,36 @@ fn writes_move_the_window(rt: HostRuntime) -> Result<(), Fail> {
 }
 
 #[test]
-fn flushes_fill_the_zone(rt: HostRuntime) -> Result<(), Fail> {
+fn commits_fill_the_zone(rt: HostRuntime) -> Result<(), Fail> {
     let past_the_end = [
-        (Open, DONE, 0),
-        (Flush(7), DONE, 8),
-        (Flush(15), DONE, 16),
-        (Flush(23), DONE, 24),
-        (Flush(31), DONE, 32),
-        (Flush(39), DONE, 40),
-        (Flush(43), DONE, 44),
-        (Write(48, 1, 0x66), PAST_CAPACITY, 44),
+        (OPEN, DONE, 0),
+        (commit(7), DONE, 8),
+        (commit(15), DONE, 16),
+        (commit(23), DONE, 24),
+        (commit(31), DONE, 32),
+        (commit(39), DONE, 40),
+        (commit(43), DONE, 44),
+        (write(48, 1, 0x66), PAST_CAPACITY, 44),
         (Is(State::ExplicitlyOpened, true), DONE, 44),
     ];
     let to_the_end = [
-        (Open, DONE, 0),
-        (Flush(7), DONE, 8),
-        (Flush(15), DONE, 16),
-        (Flush(23), DONE, 24),
-        (Flush(31), DONE, 32),
-        (Flush(39), DONE, 40),
-        (Write(40, 8, 0x77), DONE, 40),
+        (OPEN, DONE, 0),
+        (commit(7), DONE, 8),
+        (commit(15), DONE, 16),
+        (commit(23), DONE, 24),
+        (commit(31), DONE, 32),
+        (commit(39), DONE, 40),
+        (write(40, 8, 0x77), DONE, 40),
         (Is(State::ExplicitlyOpened, true), DONE, 40),
-        (Flush(47), DONE, 48),
+        (commit(47), DONE, 48),
         (Is(State::Full, false), DONE, 48),
-        (Write(40, 1, 0x88), FULL, 48),
+        (write(40, 1, 0x88), FULL, 48),
         (Read(40, 8, 0x77), DONE, 48),
     ];
     let with_holes = [
-        (Open, DONE, 0),
-        (Write(1, 1, 0x33), DONE, 0),
-        (Flush(3), DONE, 4),
+        (OPEN, DONE, 0),
+        (write(1, 1, 0x33), DONE, 0),
+        (commit(3), DONE, 4),
         (Read(0, 1, 0), DONE, 4),
         (Read(1, 1, 0x33), DONE, 4),
         (Read(2, 2, 0), DONE, 4),
@@ -289,24 +262,24 @@ fn flushes_fill_the_zone(rt: HostRuntime) -> Result<(), Fail> {
 #[test]
 fn a_reset_forgets_all_blocks(rt: HostRuntime) -> Result<(), Fail> {
     let filled = [
-        (Write(0, 48, 0x88), DONE, 48),
+        (write(0, 48, 0x88), DONE, 48),
         (Is(State::Full, false), DONE, 48),
-        (Reset, DONE, 0),
+        (RESET, DONE, 0),
         (Is(State::Empty, false), DONE, 0),
         (Read(0, 64, 0), DONE, 0),
-        (Write(0, 1, 0x99), DONE, 1),
+        (write(0, 1, 0x99), DONE, 1),
         (Read(0, 1, 0x99), DONE, 1),
         (Read(1, 63, 0), DONE, 1),
-        (Append(2, 0xaa), DONE, 3),
+        (append(2, 0xaa), DONE, 3),
         (Read(1, 2, 0xaa), DONE, 3),
     ];
     let with_window = [
-        (Open, DONE, 0),
-        (Write(6, 2, 0x88), DONE, 0),
-        (Reset, DONE, 0),
+        (OPEN, DONE, 0),
+        (write(6, 2, 0x88), DONE, 0),
+        (RESET, DONE, 0),
         (Is(State::Empty, false), DONE, 0),
         (Read(0, 64, 0), DONE, 0),
-        (Write(6, 1, 0x99), MISPLACED, 0),
+        (write(6, 1, 0x99), MISPLACED, 0),
     ];
     assert_eq!(rt; first_wrong(rt.alloc(), &filled)?, None, "of a full zone");
     assert_eq!(rt;
@@ -314,6 +287,34 @@ fn a_reset_forgets_all_blocks(rt: HostRuntime) -> Result<(), Fail> {
         None,
         "with a random write area"
     );
+    Ok(())
+}
+
+#[test]
+fn a_zone_shows_what_happened_to_it(rt: HostRuntime) -> Result<(), Fail> {
+    let rows = [
+        (Shows(0), DONE, 0),
+        (excursion(2), NO_TRANSITION, 0),
+        (OPEN, DONE, 0),
+        (Shows(8), DONE, 0),
+        (write(1, 1, 0x11), DONE, 0),
+        (Holds(1, 0x11), DONE, 0),
+        (Holds(0, 0), DONE, 0),
+        (excursion(2), DONE, 0),
+        (Shows(8 + 2), DONE, 0),
+        (excursion(3), DONE, 0),
+        (Shows(8 + 4 + 2), DONE, 0),
+        (excursion(1), DONE, 48),
+        (Is(State::Full, false), DONE, 48),
+        (Shows(4 + 1), DONE, 48),
+        (excursion(4), DONE, 48),
+        (Is(State::ReadOnly, false), DONE, 48),
+        (Shows(0), DONE, 48),
+        (Read(1, 1, 0x11), DONE, 48),
+        (RESET, NO_TRANSITION, 48),
+        (excursion(6), NO_TRANSITION, 48),
+    ];
+    assert_eq!(rt; first_wrong(rt.alloc(), &rows)?, None);
     Ok(())
 }
 
@@ -335,13 +336,13 @@ fn marks_tell_what_was_written(rt: HostRuntime) -> Result<(), Fail> {
     let mut cell = ZoneCell::new(alloc, &g, 1)?;
     let rows: [(Step, &[u32]); 8] = [
         (Is(State::Empty, false), &[]),
-        (Write(0, 2, 0), &[0, 1]),
-        (Append(1, 0x11), &[0, 1, 2]),
-        (Reset, &[]),
-        (Open, &[]),
-        (Write(8, 1, 0x22), &[8]),
-        (Flush(7), &[8]),
-        (Reset, &[]),
+        (write(0, 2, 0), &[0, 1]),
+        (append(1, 0x11), &[0, 1, 2]),
+        (RESET, &[]),
+        (OPEN, &[]),
+        (write(8, 1, 0x22), &[8]),
+        (commit(7), &[8]),
+        (RESET, &[]),
     ];
     for (step, marks) in rows {
         assert_eq!(rt; take(alloc, &mut cell, &g, step)?, DONE, "{step:?}");

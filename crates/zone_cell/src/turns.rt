@@ -1,7 +1,6 @@
-ghost use Rattle.std.specs.Prelude.{◌≡◌, ◌||◌, IsTrue, IsOk};
-ghost use Rattle.zone_state.specs.declared.action.Action.TheVariants as action;
-ghost use Rattle.zone_state.specs.Transitions.{go as allowed, after};
-ghost use Rattle.zone_cell.specs.Cells.{IsOf, MayAsk, led, excursed, turned};
+ghost use Rattle.std.specs.Prelude.{◌≡◌, IsTrue, IsOk};
+ghost use Rattle.zone_state.specs.Transitions.{go as allowed};
+ghost use Rattle.zone_cell.specs.Cells.{IsOf, MayAsk, after_open, after_excursion, after_action};
 
 use crate::cell::ZoneCell;
 use crate::states::after;
@@ -9,13 +8,13 @@ use zns_types::Geometry;
 use zone_state::Action;
 
 impl ZoneCell {
-    /// Does what an action makes of the zone. An Open may ask for a random write area. Of a write or
-    /// a flush this is the state alone.
+    /// Does what an action makes of the zone. An Open may ask for a random write area. Of a write
+    /// or a commit this is the state alone.
     pub fn turn(&mut self, g: &Geometry, action: Action, window: bool)
         requires kept { IsOf g.now.fields self.old }
         requires allowed { IsOk (allowed action self.old.state) }
         requires asks { IsTrue window → MayAsk g.now.fields action self.old }
-        ensures turned { self.new ≡ turned g.now.fields action window self.old }
+        ensures done { self.new ≡ after_action g.now.fields action window self.old }
         ensures kept { IsOf g.now.fields self.new }
     {
         match action {
@@ -29,7 +28,7 @@ impl ZoneCell {
 
     // Opens the zone, with a random write area where one is asked for.
     fn open(&mut self, window: bool)
-        ensures { self.new ≡ led (after action.Open self.old.state) self.old.pointer (record self.old { window = self.old.window || window }) }
+        ensures { self.new ≡ after_open window self.old }
     {
         self.give_window(window);
         self.lead(after(Action::Open, self.state()), self.pointer());
@@ -38,7 +37,7 @@ impl ZoneCell {
     // The controller itself acts on the zone.
     fn excurse(&mut self, g: &Geometry, kind: u8)
         requires { IsOf g.now.fields self.old }
-        ensures { self.new ≡ excursed g.now.fields kind self.old }
+        ensures { self.new ≡ after_excursion g.now.fields kind self.old }
     {
         let state = after(Action::Excursion(kind), self.state());
         let pointer = if kind == 1 {

@@ -1,11 +1,11 @@
-ghost use Rattle.std.specs.Prelude.{◌≡◌, ◌+◌, ◌≤◌, ◌/◌, None, length, IsTrue};
-ghost use Rattle.zns_types.specs.Rows.{first_holding};
-ghost use Rattle.zns_types.specs.States.{is_active};
-ghost use Rattle.zone_state.specs.ZoneRows.{write_rows, append_rows, flush_rows};
-ghost use Rattle.zone_cell.specs.Cells.{IsOf, IsBlocks, HasSoundWindow, sight, count_of, pointer_after, written, flushed};
+ghost use Rattle.std.specs.Prelude.{◌≡◌, ◌+◌, ◌≤◌, length};
+ghost use Rattle.drive_rules.specs.declared.deed.Deed.TheVariants as deed;
+ghost use Rattle.drive_rules.specs.Deeds.{Admits};
+ghost use Rattle.zone_cell.specs.Cells.{IsOf, IsBlocks, sight, pointer_after, after_write, after_commit};
+ghost use Rattle.zone_cell.specs.Deeds.{CanPut, CanAppend};
 
 use crate::cell::ZoneCell;
-use crate::states::moved;
+use crate::states::state_after;
 use zns_types::Geometry;
 use zone_state::Action;
 use zrwa_commit::implicit;
@@ -14,8 +14,7 @@ impl ZoneCell {
     // The pointer after a write of `count` blocks from the offset `from` on.
     fn pointer_after(&self, g: &Geometry, from: u64, count: u32) -> u64
         requires kept { IsOf g.now.fields self.now }
-        requires window { HasSoundWindow g.now.fields self.now }
-        requires admitted { first_holding (write_rows g.now.fields (sight self.now) from count) ≡ None }
+        requires admitted { Admits g.now.fields (sight self.now) (deed.Write from count) }
         requires some { 1 ≤ count }
         ensures exact { result ≡ pointer_after g.now.fields self.now count (from + count) }
         ensures within { result ≤ length self.now.blocks }
@@ -31,15 +30,14 @@ impl ZoneCell {
     /// Writes host data to the blocks from the offset `from` on.
     pub fn put(&mut self, g: &Geometry, from: u64, payload: &[u8])
         requires kept { IsOf g.now.fields self.old }
-        requires window { HasSoundWindow g.now.fields self.old }
         requires blocks { IsBlocks self.old.block_len payload.now }
-        requires admitted { first_holding (write_rows g.now.fields (sight self.old) from (count_of self.old payload.now)) ≡ None }
-        ensures written { self.new ≡ written g.now.fields from payload.now self.old }
+        requires admitted { CanPut g.now.fields from payload.now self.old }
+        ensures done { self.new ≡ after_write g.now.fields from payload.now self.old }
         ensures kept { IsOf g.now.fields self.new }
     {
         let count = payload.len() / self.block_len() as usize;
         let pointer = self.pointer_after(g, from, count as u32);
-        let state = moved(g.fields().capacity, Action::Write, pointer, self.state());
+        let state = state_after(g.fields().capacity, Action::Write, pointer, self.state());
         self.store(from, payload);
         self.lead(state, pointer);
     }
@@ -48,9 +46,9 @@ impl ZoneCell {
     pub fn append(&mut self, g: &Geometry, payload: &[u8]) -> u64
         requires kept { IsOf g.now.fields self.old }
         requires blocks { IsBlocks self.old.block_len payload.now }
-        requires admitted { first_holding (append_rows g.now.fields (sight self.old) (count_of self.old payload.now)) ≡ None }
+        requires admitted { CanAppend g.now.fields payload.now self.old }
         ensures placed { result ≡ self.old.pointer }
-        ensures written { self.new ≡ written g.now.fields self.old.pointer payload.now self.old }
+        ensures done { self.new ≡ after_write g.now.fields self.old.pointer payload.now self.old }
         ensures kept { IsOf g.now.fields self.new }
     {
         let from = self.pointer();
@@ -61,13 +59,12 @@ impl ZoneCell {
     /// Commits the blocks of the random write area up to the offset `last`.
     pub fn commit(&mut self, g: &Geometry, last: u64)
         requires kept { IsOf g.now.fields self.old }
-        requires active { IsTrue (is_active self.old.state) }
-        requires admitted { first_holding (flush_rows g.now.fields (sight self.old) last) ≡ None }
-        ensures flushed { self.new ≡ flushed g.now.fields last self.old }
+        requires admitted { Admits g.now.fields (sight self.old) (deed.Commit last) }
+        ensures done { self.new ≡ after_commit g.now.fields last self.old }
         ensures kept { IsOf g.now.fields self.new }
     {
         let pointer = last + 1;
-        let state = moved(g.fields().capacity, Action::Flush, pointer, self.state());
+        let state = state_after(g.fields().capacity, Action::Commit, pointer, self.state());
         self.lead(state, pointer);
     }
 }

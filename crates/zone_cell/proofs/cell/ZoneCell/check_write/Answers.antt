@@ -3,8 +3,11 @@ use Rattle.std.specs.Prelude.{nat_lt}
 use Rattle.std.proofs.lemmas.Result.{err_from_is_err_and}
 use Rattle.zns_types.specs.Rows.{when}
 use Rattle.zns_types.specs.Statuses.{Status, zone_invalid_write, zone_boundary_error}
-use Rattle.zone_state.specs.ZoneRows.{is_misplaced}
-use Rattle.zone_cell.specs.Cells.{checked, need_of, sight}
+use Rattle.drive_rules.specs.ZoneRows.{is_misplaced}
+use Rattle.zone_cell.specs.Cells.{sight}
+use Rattle.zone_cell.specs.Deeds.{need_or_refusal}
+use Rattle.drive_rules.specs.Deeds.{need_for}
+use Rattle.drive_rules.specs.declared.deed.Deed.TheVariants as deed
 use Rattle.zone_cell.proofs.cell.ZoneCell.check_write.Goals as goal
 
 pub returns-in_err-open_to_writes : goal.returns-in_err-open_to_writes
@@ -14,4 +17,4 @@ returns-in_err-open_to_writes c =
     let end = c.args.from + c.args.count in
     let rows = when (is_misplaced g (sight c.args.self.now) c.args.from end) zone_invalid_write ∷ when (nat_lt g.capacity end) zone_boundary_error ∷ [] in
     let refused = rw c.state.ensures at (c.in_err-open_to_writes.ensures.closed rows) in
-    rw (p.1, p.2) (sym (ap (λ (o : Option Status). checked o (need_of c.args.self.now.state)) refused))
+    rw (p.1, p.2) (sym (ap (λ (o : Option Status). need_or_refusal o (need_for (deed.Write c.args.from c.args.count) (sight c.args.self.now))) refused))

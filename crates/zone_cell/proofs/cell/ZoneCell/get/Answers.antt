@@ -1,6 +1,6 @@
 use Rattle.std.proofs.Common.{◌≡◌, ◌*◌, ℕ, length, refl, arith, None, get_or}
 use Rattle.std.proofs.lemmas.Nat.{mul-le}
-use Rattle.zone_state.specs.Blocks.{seen_block}
+use Rattle.drive_rules.specs.Blocks.{seen_block}
 use Rattle.zone_cell.proofs.Pieces.{filled_more}
 use Rattle.zone_cell.proofs.cell.ZoneCell.get.Goals as goal
 

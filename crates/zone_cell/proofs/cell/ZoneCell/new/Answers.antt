@@ -12,4 +12,7 @@ returns-clause-kept c = record {
   zone = c.requires;
   len = c.block_len.ensures.exact;
   blocks = length-kept c.block_len.result c.in_ok-bytes.bytes.items c.in_ok-written.written ∙ rw (c.in_ok-written.ensures, c.fields.ensures) (length-replicate c.args.g.now.fields.capacity false);
+  windows = λ on. absurd cc;
+  granular = λ on. absurd cc;
+  active = λ on. absurd cc;
 }

@@ -1,7 +1,7 @@
-use Rattle.std.proofs.Common.{length, ap, ◌∙◌, arith}
-use Rattle.zone_cell.specs.Cells.{Cell}
+use Rattle.std.proofs.Common.{◌≡◌, length, ap, ◌∙◌, arith, rules}
+use Rattle.zone_cell.specs.Cells.{Cell, after_write}
 use Rattle.zone_cell.proofs.Blocks.{length-with_blocks}
-use Rattle.zone_cell.proofs.Cells.{IsOf-led, IsOf-stored}
+use Rattle.zone_cell.proofs.Cells.{IsOf-after_write}
 use Rattle.zone_cell.proofs.cell.ZoneCell.put.Goals as goal
 
 pub lead-requires : goal.lead-requires
@@ -10,5 +10,6 @@ lead-requires c =
 
 pub returns-clause-kept : goal.returns-clause-kept
 returns-clause-kept c =
-    rw c.lead.ensures (IsOf-led c.args.g.now.fields c.moved-state.result c.pointer_after-pointer.result c.store.new.self
-    (rw c.store.ensures (IsOf-stored c.args.g.now.fields c.args.from c.args.payload.now c.args.self.now c.requires.kept)))
+    let g = c.args.g.now.fields in
+    let same : c.lead.new.self ≡ after_write g c.args.from c.args.payload.now c.args.self.now = search rules in
+    rw same (IsOf-after_write g c.args.from c.args.payload.now c.args.self.now c.requires.kept)

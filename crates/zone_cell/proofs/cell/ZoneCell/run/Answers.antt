@@ -21,10 +21,10 @@ returns-clause-bytes c =
     rw (size, at, c.deref.ensures.value, ← c.from.ensures) (run_stands c.self.inside c.args.self.now c.args.from c.from.result c.self.view_is (omega arith) (sym c.holes-holes.ensures ∙ none))
 
 pub returns-then-end-from-clause-whole : goal.returns-then-end-from-clause-whole
-returns-then-end-from-clause-whole c = λ within none. absurd (omega (arith, within, marks_of c.self.inside c.args.self.now c.self.view_is))
+returns-then-end-from-clause-whole c = λ whole. absurd (omega (arith, whole.within, marks_of c.self.inside c.args.self.now c.self.view_is))
 
 pub returns-then-holes-gt0-clause-whole : goal.returns-then-holes-gt0-clause-whole
-returns-then-holes-gt0-clause-whole c = λ within none.
-    let unmarked : holes c.self.inside.written c.args.from (c.args.from + c.args.count) ≡ 0 = rw (marks_are c.self.inside c.args.self.now c.self.view_is) none in
+returns-then-holes-gt0-clause-whole c = λ whole.
+    let unmarked : holes c.self.inside.written c.args.from (c.args.from + c.args.count) ≡ 0 = rw (marks_are c.self.inside c.args.self.now c.self.view_is) whole.no_hole in
     let found : c.holes-holes.result ≡ 0 = c.holes-holes.ensures ∙ rw c.from.ensures unmarked in
     absurd (omega (arith, found))
