@@ -3,7 +3,7 @@ use Rattle.std.proofs.Common.{◌≡◌, ◌≢◌, ℕ, zero, suc, ◌+◌, ◌
 use Rattle.std.proofs.lemmas.List.{get_or_default}
 use Rattle.zns_types.specs.States.{is_implicitly_opened}
 use Rattle.zone_cell.specs.Cells.{Cell}
-use Rattle.zone_room.specs.Rooms.{no_cell, cell_at, evictable_in}
+use Rattle.zone_room.specs.Rooms.{no_cell, cell_in, evictable_in}
 use Rattle.std.proofs.lemmas.Bool.{and_parts, eqb-false, not-true}
 use Rattle.std.specs.Prelude.{find, ◌==◌, ◌&&◌, not}
 use Rattle.std.specs.List.{range_with_len}
@@ -29,15 +29,15 @@ first_at test from (suc k) (suc n) x at lt e here =
 
 -- a cell that was read is the one at its place
 pub shown : (cells : List Cell) (at : ℕ) (c : Cell) (but : ℕ) → at < length cells → c ≡ get_or cells at c
-    → (is_implicitly_opened (cell_at cells at).state && not (at == but)) ≡ (is_implicitly_opened c.state && not (at == but))
+    → (is_implicitly_opened (cell_in cells at).state && not (at == but)) ≡ (is_implicitly_opened c.state && not (at == but))
 shown cells at c but lt is =
-    let same : cell_at cells at ≡ c = get_or_default cells at no_cell c lt ∙ sym is in
+    let same : cell_in cells at ≡ c = get_or_default cells at no_cell c lt ∙ sym is in
     ap (λ (x : Cell). is_implicitly_opened x.state && not (at == but)) same
 
 -- what is found is an Implicitly Opened zone, and another
 pub record IsFound (cells : List Cell) (but y : ℕ) : Type 0 where
   pub below : y < length cells
-  pub opened : is_implicitly_opened (cell_at cells y).state ≡ true
+  pub opened : is_implicitly_opened (cell_in cells y).state ≡ true
   pub apart : y ≢ but
 
 in_range : (test : ℕ → Bool) (from n x : ℕ) → find test (range_with_len from n) ≡ Some x → (test x ≡ true) × (x < from + n)
@@ -49,8 +49,8 @@ in_range test from (suc n) x e = by_first (test from) refl e (in_range test (fro
     by_first true is e later = let same : from ≡ x = cc in (ap test (sym same) ∙ is, omega arith)
     by_first false is e later = let rest = later e in (rest.0, omega (arith, rest.1))
 
-pub opened_there : (cells : List Cell) (but y : ℕ) → evictable_in cells but ≡ Some y → IsFound cells but y
-opened_there cells but y e =
-    let is = in_range (λ at. is_implicitly_opened (cell_at cells at).state && not (at == but)) 0 (length cells) y e in
+pub found_there : (cells : List Cell) (but y : ℕ) → evictable_in cells but ≡ Some y → IsFound cells but y
+found_there cells but y e =
+    let is = in_range (λ at. is_implicitly_opened (cell_in cells at).state && not (at == but)) 0 (length cells) y e in
     let parts = and_parts _ _ is.0 in
     record { below = omega (arith, is.1); opened = parts.0; apart = eqb-false y but (not-true _ parts.1) }

@@ -1,3 +1,5 @@
 pub mod Finding
+pub mod Judging
+pub mod Uses
 pub mod Making
-pub mod TargetCases
+pub mod Verdicts

@@ -1,3 +1,3 @@
 pub mod Using
 pub mod Rooms
-pub mod Targets
+pub mod Verdicts

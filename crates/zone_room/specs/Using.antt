@@ -1,19 +1,11 @@
 -- What a zone uses of a drive's resources, and how it is counted.
-use Rattle.std.specs.Prelude.{◌≡◌, ℕ, ◌<◌, ◌≤◌, Bool, IsTrue, false}
+use Rattle.std.specs.Prelude.{◌≡◌, ℕ, ◌<◌, ◌≤◌, Bool, IsTrue, false, List, All}
 use Rattle.zns_types.specs.declared.fields.GeometryFields.{GeometryFields}
-use Rattle.zns_types.specs.States.{is_active, is_opened}
 use Rattle.zone_limits.specs.declared.limits.Limits.{Limits}
 use Rattle.zone_limits.specs.declared.limits.Need.{Need}
-use Rattle.zone_limits.specs.Resources.{taken, given_back, AreWithin, HasRoom}
-use Rattle.zone_cell.specs.Cells.{Cell, IsOf, HasSoundWindow}
-
--- an active resource, an open one, a random write area
-abbrev pub use_of : Cell → Need
-use_of c = record { active = is_active c.state; opened = is_opened c.state; window = c.window }
-
--- the counts after a zone's use changed
-abbrev pub recounted : Need → Need → Limits → Limits
-recounted before after n = taken (given_back n before) after
+use Rattle.zone_limits.specs.Resources.{AreWithin, HasRoom}
+use Rattle.drive_rules.specs.Deeds.{use_of}
+use Rattle.zone_cell.specs.Cells.{Cell, sight}
 
 -- one resource is counted for a zone that uses it, and one is left uncounted for a zone that doesn't
 pub record IsCounted (zones n : ℕ) (uses : Bool) : Type 0 where
@@ -27,6 +19,10 @@ pub record AreCounted (g : GeometryFields) (n : Limits) (u : Need) : Type 0 wher
   pub opened : IsCounted g.zones n.opened u.opened
   pub windows : IsCounted g.zones n.windows u.window
 
+-- the use of each of these cells is
+abbrev pub EachIsCounted : GeometryFields → Limits → List Cell → Type 0
+EachIsCounted g n cells = All (λ c. AreCounted g n (use_of (sight c))) cells
+
 -- what a zone uses that it did not use before is left
 pub record HasRoomFor (g : GeometryFields) (n : Limits) (before after : Need) : Type 0 where
   pub active : IsTrue after.active → before.active ≡ false → HasRoom g.active_limit n.active
@@ -38,10 +34,3 @@ pub record HasNeeded (g : GeometryFields) (n : Limits) (need : Need) : Type 0 wh
   pub active : IsTrue need.active → HasRoom g.active_limit n.active
   pub opened : IsTrue need.opened → HasRoom g.open_limit n.opened
   pub windows : IsTrue need.window → n.windows < g.windows
-
--- a cell of a drive that counts its use
-pub record IsSound (g : GeometryFields) (n : Limits) (c : Cell) : Type 0 where
-  pub of : IsOf g c
-  pub window : HasSoundWindow g c
-  pub windowed : IsTrue c.window → IsTrue (is_active c.state)
-  pub counted : AreCounted g n (use_of c)

@@ -1,11 +1,13 @@
-//! What zones use of a drive's resources, and how room is made for one more.
+//! The one driver of deeds: a deed to one of the zones that are lent, with the counts of zones in
+//! use and the zone that gives way.
 #![tactic(auto)]
 
+mod counting;
 mod evicting;
-mod using;
+mod serving;
 
-pub use evicting::make_room;
-pub use using::{recount, use_of};
+pub use counting::{recount, use_of};
+pub use serving::{Served, serve_deed};
 
 #[cfg(test)]
 mod tests;
