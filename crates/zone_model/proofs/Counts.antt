@@ -1,79 +1,72 @@
--- What one more place makes of the numbers of active and opened zones and of windows.
-use Rattle.std.proofs.Common.{◌≡◌, ◌≢◌, ℕ, ◌+◌, ◌<◌, ◌≤◌, List, ap}
+-- What zones use, all together, after the use of one or two of them has changed.
+use Rattle.std.proofs.Common.{◌≡◌, ◌≢◌, ℕ, ◌<◌, ◌≤◌, Bool, true, false, cond, refl, sym, ap, ◌∙◌, inl, inr}
+use Rattle.std.specs.Prelude.{◌==◌, ◌⊎◌}
+use Rattle.std.proofs.lemmas.Bool.{cases_eq, eq-eqb, ne_eqb}
 use Rattle.zns_types.specs.declared.fields.GeometryFields.{GeometryFields}
-use Rattle.zns_types.specs.States.{is_active, is_opened}
-use Rattle.zone_state.specs.Shown.{one}
-use Rattle.zone_model.specs.Places.{Place}
-use Rattle.zone_model.specs.Zones.{state, window, active, opened, windows}
-use Rattle.zone_model.proofs.Ranges.{count-same, count-change, count-change_two, count-le_all}
+use Rattle.zone_limits.specs.declared.limits.Limits.{Limits}
+use Rattle.zone_limits.specs.declared.limits.Need.{Need}
+use Rattle.zone_limits.specs.Resources.{recounted}
+use Rattle.zone_model.specs.Zones.{counted}
+use Rattle.zone_model.proofs.Ranges.{count-same, count-set, count-used, count-unused, count_below}
 
--- the zones other than one have the states that they had
-abbrev pub SameStatesBut : GeometryFields → List Place → List Place → ℕ → Type 0
-SameStatesBut g old new z = (x : ℕ) → x ≢ z → state g new x ≡ state g old x
+pub counted-same : (g : GeometryFields) (old new : ℕ → Need) → ((x : ℕ) → x < g.zones → new x ≡ old x) → counted g new ≡ counted g old
+unfolding counted
+counted-same g old new same = rw (
+  count-same (λ x. (new x).active) (λ x. (old x).active) g.zones (λ x lt. ap (λ (u : Need). u.active) (same x lt)),
+  count-same (λ x. (new x).opened) (λ x. (old x).opened) g.zones (λ x lt. ap (λ (u : Need). u.opened) (same x lt)),
+  count-same (λ x. (new x).window) (λ x. (old x).window) g.zones (λ x lt. ap (λ (u : Need). u.window) (same x lt)),
+) refl
 
-abbrev pub SameWindowsBut : GeometryFields → List Place → List Place → ℕ → Type 0
-SameWindowsBut g old new z = (x : ℕ) → x ≢ z → window g new x ≡ window g old x
+-- the use of one zone has changed
+pub counted-set : (g : GeometryFields) (old new : ℕ → Need) (z : ℕ) → z < g.zones → ((x : ℕ) → x ≢ z → new x ≡ old x) → counted g new ≡ recounted (old z) (new z) (counted g old)
+unfolding counted
+counted-set g old new z lt same = rw (
+  count-set (λ x. (new x).active) (λ x. (old x).active) z g.zones lt (λ x other. ap (λ (u : Need). u.active) (same x other)),
+  count-set (λ x. (new x).opened) (λ x. (old x).opened) z g.zones lt (λ x other. ap (λ (u : Need). u.opened) (same x other)),
+  count-set (λ x. (new x).window) (λ x. (old x).window) z g.zones lt (λ x other. ap (λ (u : Need). u.window) (same x other)),
+) refl
 
--- ---- no zone has changed
+-- the uses of two zones have changed
+pub counted-set_two : (g : GeometryFields) (old new : ℕ → Need) (y z : ℕ) → y ≢ z → y < g.zones → z < g.zones → ((x : ℕ) → x ≢ y → x ≢ z → new x ≡ old x)
+    → counted g new ≡ recounted (old z) (new z) (recounted (old y) (new y) (counted g old))
+counted-set_two g old new y z apart y_lt z_lt same =
+    counted-set g mid new z z_lt (λ x other. off_z x other (cases_eq x y))
+    ∙ rw (mid-other z (λ e. apart (sym e)), sym (mid-here y refl)) (ap (recounted (old z) (new z)) (counted-set g old mid y y_lt mid-other))
+  where
+    -- only the first has
+    mid : ℕ → Need
+    mid x = cond (x == y) (new x) (old x)
 
-pub active-same : (g : GeometryFields) (old new : List Place) → ((x : ℕ) → state g new x ≡ state g old x) → active g new ≡ active g old
-unfolding active
-active-same g old new same = count-same (λ z. is_active (state g new z)) (λ z. is_active (state g old z)) g.zones (λ x lt. ap is_active (same x))
+    mid-other : (x : ℕ) → x ≢ y → mid x ≡ old x
+    mid-other x other = rw (ne_eqb x y other) refl
 
-pub opened-same : (g : GeometryFields) (old new : List Place) → ((x : ℕ) → state g new x ≡ state g old x) → opened g new ≡ opened g old
-unfolding opened
-opened-same g old new same = count-same (λ z. is_opened (state g new z)) (λ z. is_opened (state g old z)) g.zones (λ x lt. ap is_opened (same x))
+    mid-here : (x : ℕ) → x ≡ y → mid x ≡ new x
+    mid-here x here = rw (eq-eqb x y here) refl
 
-pub windows-same : (g : GeometryFields) (old new : List Place) → ((x : ℕ) → window g new x ≡ window g old x) → windows g new ≡ windows g old
-unfolding windows
-windows-same g old new same = count-same (λ z. window g new z) (λ z. window g old z) g.zones (λ x lt. same x)
+    off_z : (x : ℕ) → x ≢ z → (x ≡ y) ⊎ (x ≡ y → ⊥) → new x ≡ mid x
+    off_z x other (inl here) = sym (mid-here x here)
+    off_z x other (inr there) = same x there other ∙ sym (mid-other x there)
 
--- ---- one zone has changed
+-- ---- one zone among them
 
-pub active-change : (g : GeometryFields) (old new : List Place) (z : ℕ) → z < g.zones → SameStatesBut g old new z
-    → active g new + one (is_active (state g old z)) ≡ active g old + one (is_active (state g new z))
-unfolding active
-active-change g old new z lt same = count-change (λ x. is_active (state g new x)) (λ x. is_active (state g old x)) z g.zones lt (λ x other. ap is_active (same x other))
+-- one resource is counted for a zone that uses it, and one is left uncounted for a zone that doesn't
+pub record CountsOne (zones n : ℕ) (uses : Bool) : Type 0 where
+  pub used : uses ≡ true → 1 ≤ n
+  pub unused : uses ≡ false → n < zones
 
-pub opened-change : (g : GeometryFields) (old new : List Place) (z : ℕ) → z < g.zones → SameStatesBut g old new z
-    → opened g new + one (is_opened (state g old z)) ≡ opened g old + one (is_opened (state g new z))
-unfolding opened
-opened-change g old new z lt same = count-change (λ x. is_opened (state g new x)) (λ x. is_opened (state g old x)) z g.zones lt (λ x other. ap is_opened (same x other))
+pub record CountsUse (g : GeometryFields) (n : Limits) (u : Need) : Type 0 where
+  pub active : CountsOne g.zones n.active u.active
+  pub opened : CountsOne g.zones n.opened u.opened
+  pub windows : CountsOne g.zones n.windows u.window
 
-pub windows-change : (g : GeometryFields) (old new : List Place) (z : ℕ) → z < g.zones → SameWindowsBut g old new z
-    → windows g new + one (window g old z) ≡ windows g old + one (window g new z)
-unfolding windows
-windows-change g old new z lt same = count-change (λ x. window g new x) (λ x. window g old x) z g.zones lt same
+counted-one : (test : ℕ → Bool) (z n : ℕ) → z < n → CountsOne n (count_below test n) (test z)
+counted-one test z n lt = record { used = count-used test z n lt; unused = count-unused test z n lt }
 
--- ---- a zone has changed, and another that was closed for it
-
-pub active-change_two : (g : GeometryFields) (old new : List Place) (y z : ℕ) → y ≢ z → y < g.zones → z < g.zones → ((x : ℕ) → x ≢ y → x ≢ z → state g new x ≡ state g old x)
-    → active g new + (one (is_active (state g old y)) + one (is_active (state g old z))) ≡ active g old + (one (is_active (state g new y)) + one (is_active (state g new z)))
-unfolding active
-active-change_two g old new y z apart y_lt z_lt same =
-    count-change_two (λ x. is_active (state g new x)) (λ x. is_active (state g old x)) y z g.zones apart y_lt z_lt (λ x off_y off_z. ap is_active (same x off_y off_z))
-
-pub opened-change_two : (g : GeometryFields) (old new : List Place) (y z : ℕ) → y ≢ z → y < g.zones → z < g.zones → ((x : ℕ) → x ≢ y → x ≢ z → state g new x ≡ state g old x)
-    → opened g new + (one (is_opened (state g old y)) + one (is_opened (state g old z))) ≡ opened g old + (one (is_opened (state g new y)) + one (is_opened (state g new z)))
-unfolding opened
-opened-change_two g old new y z apart y_lt z_lt same =
-    count-change_two (λ x. is_opened (state g new x)) (λ x. is_opened (state g old x)) y z g.zones apart y_lt z_lt (λ x off_y off_z. ap is_opened (same x off_y off_z))
-
-pub windows-change_two : (g : GeometryFields) (old new : List Place) (y z : ℕ) → y ≢ z → y < g.zones → z < g.zones → ((x : ℕ) → x ≢ y → x ≢ z → window g new x ≡ window g old x)
-    → windows g new + (one (window g old y) + one (window g old z)) ≡ windows g old + (one (window g new y) + one (window g new z))
-unfolding windows
-windows-change_two g old new y z apart y_lt z_lt same = count-change_two (λ x. window g new x) (λ x. window g old x) y z g.zones apart y_lt z_lt same
-
--- ---- there are no more of them than zones
-
-pub active-zones : (g : GeometryFields) (h : List Place) → active g h ≤ g.zones
-unfolding active
-active-zones g h = count-le_all (λ z. is_active (state g h z)) g.zones
-
-pub opened-zones : (g : GeometryFields) (h : List Place) → opened g h ≤ g.zones
-unfolding opened
-opened-zones g h = count-le_all (λ z. is_opened (state g h z)) g.zones
-
-pub windows-zones : (g : GeometryFields) (h : List Place) → windows g h ≤ g.zones
-unfolding windows
-windows-zones g h = count-le_all (λ z. window g h z) g.zones
+-- what zones use counts what each of them uses
+pub counted-use : (g : GeometryFields) (use_by : ℕ → Need) (z : ℕ) → z < g.zones → CountsUse g (counted g use_by) (use_by z)
+unfolding counted
+counted-use g use_by z lt = record {
+  active = counted-one (λ x. (use_by x).active) z g.zones lt;
+  opened = counted-one (λ x. (use_by x).opened) z g.zones lt;
+  windows = counted-one (λ x. (use_by x).window) z g.zones lt;
+}

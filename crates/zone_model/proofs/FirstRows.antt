@@ -4,9 +4,10 @@ use Rattle.std.specs.Prelude.{unwrap_or}
 use Rattle.zns_types.specs.declared.fields.GeometryFields.{GeometryFields}
 use Rattle.zns_types.specs.Statuses.{Status, success, is_success}
 use Rattle.zns_types.specs.Rows.{Row, first_holding}
+use Rattle.drive_rules.specs.Tables.{first_refusal}
 use Rattle.zone_model.specs.declared.act.Act.{Act}
 use Rattle.zone_model.specs.Places.{Place, command_of}
-use Rattle.zone_model.specs.Answers.{first_refusal, all_rows, rows_of, status}
+use Rattle.zone_model.specs.Answers.{all_rows, table_of, status}
 use Rattle.zone_model.specs.Laws.{FirstHolds}
 
 -- one more row, which doesn't hold, in front
@@ -21,7 +22,7 @@ before_first r rs code fails first = record {
   answers = first.answers;
 }
 
-pub first_holds : (rs : List (Row Status)) → is_success (first_refusal rs) ≡ false → FirstHolds rs (first_refusal rs)
+first_holds : (rs : List (Row Status)) → is_success (first_refusal rs) ≡ false → FirstHolds rs (first_refusal rs)
 first_holds [] refused = absurd (cc refused)
 first_holds (r ∷ rs) refused = by_first r.holds refl refused (first_holds rs)
   where
@@ -30,6 +31,6 @@ first_holds (r ∷ rs) refused = by_first r.holds refl refused (first_holds rs)
     by_first true holds refused k = record { earlier = []; row = r; later = rs; order = refl; none_earlier = refl; holds = holds; answers = refl }
     by_first false fails refused k = before_first r rs (first_refusal rs) fails (k refused)
 
-pub first_refusal_holds : (g : GeometryFields) (h : List Place) (a : Act) → is_success (status g h a) ≡ false → FirstHolds (all_rows g h (rows_of g h (command_of a))) (status g h a)
+pub first_refusal_holds : (g : GeometryFields) (h : List Place) (a : Act) → is_success (status g h a) ≡ false → FirstHolds (all_rows g h (table_of g h (command_of a))) (status g h a)
 unfolding status
-first_refusal_holds g h a refused = first_holds (all_rows g h (rows_of g h (command_of a))) refused
+first_refusal_holds g h a refused = first_holds (all_rows g h (table_of g h (command_of a))) refused

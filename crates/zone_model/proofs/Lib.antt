@@ -1,38 +1,25 @@
-pub mod Steps
-pub mod Quiet
-pub mod Unmoved
 pub mod Histories
-pub mod Ranges
-pub mod Counts
+pub mod Found
 pub mod Passing
+pub mod Fronts
 pub mod Sends
-pub mod Leads
+pub mod Sweeps
 pub mod Deeds
-pub mod Multiples
-pub mod Ways
-pub mod Standing
-pub mod Pointers
-pub mod StandsAfter
-pub mod Allowed
 pub mod Refused
 pub mod FirstRows
 pub mod Reached
-pub mod Committed
-pub mod PointersMove
-pub mod Calm
-pub mod Growth
+pub mod Ranges
+pub mod Counts
+pub mod OneCounted
 pub mod Limits
-pub mod WithinLimits
+pub mod ZoneLaws
 pub mod KeptHistories
-pub mod Drive
-pub mod Examples
-pub mod NoticeExamples
-pub mod EntryExamples
-pub mod MoreNotices
-pub mod TextExamples
-pub mod MoreActs
-pub mod RefusalExamples
-pub mod ZoneExamples
-pub mod EventExamples
-pub mod ReportExamples
-pub mod SessionExamples
+pub mod LocalFacts
+pub mod Merging
+pub mod ExampleDrive
+mod ZoneExamples
+mod RefusalExamples
+mod EntryExamples
+mod EventExamples
+mod ReportExamples
+mod SessionExamples

@@ -1,31 +1,33 @@
--- A zone out of an act's reach has no move, unless it is closed for another.
-use Rattle.std.proofs.Common.{◌≡◌, ℕ, zero, suc, ◌+◌, ◌*◌, ◌-◌, ◌<◌, ◌≤◌, Bool, true, false, cond, List, Option, Some, None, get_or, refl, sym, ap, ◌∙◌, arith, inl, inr}
+-- Nothing is done to a zone out of an act's reach, unless it gives way to another.
+use Rattle.std.proofs.Common.{◌≡◌, ℕ, zero, suc, ◌+◌, ◌*◌, ◌-◌, ◌<◌, ◌≤◌, Bool, true, false, cond, List, Option, Some, None, get_or, refl, ap, ◌∙◌, arith, inl, inr}
 use Rattle.std.specs.Prelude.{◌==◌}
 use Rattle.std.specs.List.{list_any, range_with_len}
 use Rattle.std.proofs.Math.Nat.{div-mul-le_self}
 use Rattle.std.proofs.lemmas.Nat.{le-div}
 use Rattle.std.proofs.lemmas.List.Folds.{list_any_at}
 use Rattle.std.proofs.lemmas.List.FromFn.{length-range_with_len, get_or-range_with_len}
-use Rattle.std.proofs.lemmas.Bool.{cases_Bool, eq-eqb, eqb-true, ltb-false, leb-false, lt-ltb, le-leb}
+use Rattle.std.proofs.lemmas.Bool.{cases_Bool, eq-eqb, eqb-true, leb-false, lt-ltb, le-leb}
 use Rattle.zns_types.specs.declared.fields.GeometryFields.{GeometryFields}
-use Rattle.zns_types.specs.Geometry.{all_blocks, zone_of}
+use Rattle.zns_types.specs.Geometry.{all_blocks, zone_of, offset_of}
+use Rattle.zns_types.specs.Rows.{first_holding}
 use Rattle.zns_types.specs.Statuses.{is_success}
-use Rattle.zns_types.specs.declared.state.State.{State}
 use Rattle.sqe_codec.specs.declared.cmd.Cmd.{Cmd}
 use Rattle.sqe_codec.specs.declared.cmd.Cmd.TheVariants as cmd
-use Rattle.zone_state.specs.declared.action.Action.{Action}
-use Rattle.zone_state.specs.declared.action.Action.TheVariants as action
+use Rattle.drive_rules.specs.declared.deed.Deed.{Deed}
+use Rattle.drive_rules.specs.declared.deed.Deed.TheVariants as deed
+use Rattle.drive_rules.specs.Aims.{sent_deed, aimed_at, sweep_of}
+use Rattle.drive_rules.specs.Tables.{last_zone, front_rows}
 use Rattle.zone_model.specs.declared.act.Act.{Act}
 use Rattle.zone_model.specs.Places.{Place, command_of}
-use Rattle.zone_model.specs.Zones.{state, zones, zone, counts}
-use Rattle.zone_model.specs.Refusals.{last_zone, only, write_rows, append_rows, excursion_rows, send_front, action_of}
-use Rattle.zone_model.specs.Answers.{status, rows_of, commanded, sent, zone_move, is_zone, evicted, and_then}
+use Rattle.zone_model.specs.Zones.{zones}
+use Rattle.zone_model.specs.Answers.{status, commanded_by, commanded, zone_deed, is_zone, evicted, and_then}
 use Rattle.zone_model.specs.Reach.{zone_with, zones_with, reach_of}
 use Rattle.zone_model.specs.Laws.{is_reached, IsUnchanged}
-use Rattle.zone_model.proofs.Passing.{rows_fail, status_by, status-rows}
+use Rattle.zone_model.proofs.Passing.{success-front}
+use Rattle.zone_model.proofs.Fronts.{write_front-within, append_front-within, excursion_front-within, send_front-passes}
 use Rattle.zone_model.proofs.Sends.{HasBlocks, some_blocks}
-use Rattle.zone_model.proofs.Unmoved.{unmoved}
-use Rattle.zone_model.proofs.Deeds.{sent_rows, move_taken, move_refused}
+use Rattle.zone_model.proofs.Deeds.{deed-success, deed-refused}
+use Rattle.zone_model.proofs.Refused.{idle-unchanged}
 
 -- ---- ranges of zones
 
@@ -65,47 +67,31 @@ other_zone {A} y z zs a here away = by_case (y == z) refl
 
 -- ---- commands
 
--- a Send to one zone that takes names a block of the namespace
-send_within : (g : GeometryFields) (h : List Place) (nsid slba act : ℕ) (option : Bool) (o : Option Action) → is_success (status_by g h (sent_rows g h nsid slba act false option o (zone_of g slba))) ≡ true → slba < all_blocks g
-send_within g h nsid slba act option None ok = let fails = rows_fail g h (only (send_front g nsid slba act false option)) refl ok in leb-false _ _ fails.1.1.1.0
-send_within g h nsid slba act option (Some action.Open) ok =
-    let fails = rows_fail g h (sent_rows g h nsid slba act false option (Some action.Open) (zone_of g slba)) refl ok in
-    leb-false _ _ fails.1.1.1.0
-send_within g h nsid slba act option (Some action.Flush) ok =
-    let fails = rows_fail g h (sent_rows g h nsid slba act false option (Some action.Flush) (zone_of g slba)) refl ok in
-    leb-false _ _ fails.1.1.1.0
-send_within g h nsid slba act option (Some a) ok =
-    let fails = rows_fail g h (sent_rows g h nsid slba act false option (Some a) (zone_of g slba)) refl ok in
-    leb-false _ _ fails.1.1.1.0
+aimed-away : (g : GeometryFields) (h : List Place) (k : Cmd) (y z : ℕ) (zs : List ℕ) (o : Option Deed) → sweep_of k ≡ None → is_among y zs ≡ true → is_among z zs ≡ false → commanded_by g h k (aimed_at y o) z ≡ None
+aimed-away g h k y z zs None none here away = rw none refl
+aimed-away g h k y z zs (Some d) none here away = other_zone y z zs d here away
 
-sent_none : (here : Bool) (s : State) (o : Option Action) → ((a : Action) → cond here (Some a) None ≡ None) → sent false here s o ≡ None
-sent_none here s None k = refl
-sent_none here s (Some a) k = k a
+not_reached : (g : GeometryFields) (h : List Place) (k : Cmd) (z : ℕ) → first_holding (front_rows g k) ≡ None → HasBlocks k → z < g.zones → is_among z (reach_of g k) ≡ false → commanded g h k z ≡ None
+not_reached g h (cmd.Write nsid slba blocks) z front has lt away =
+    other_zone (zone_of g slba) z (zones_with g slba blocks) (deed.Write (offset_of g slba) blocks) (zones_with-has g slba blocks has.some (write_front-within g nsid slba blocks front)) away
+not_reached g h (cmd.Append nsid zslba blocks) z front has lt away =
+    other_zone (zone_of g zslba) z (zone_with g zslba) (deed.Append blocks) (zone_with-has g zslba (append_front-within g nsid zslba blocks front)) away
+not_reached g h (cmd.Send nsid slba act true option) z front has lt away = absurd (cc (away, range-has 0 g.zones z (omega arith) (omega arith)))
+not_reached g h (cmd.Send nsid slba act false option) z front has lt away =
+    let here = zone_with-has g slba (leb-false _ _ (send_front-passes g nsid slba act false option front).has_block) in
+    aimed-away g h (cmd.Send nsid slba act false option) (zone_of g slba) z (zone_with g slba) (sent_deed act option (offset_of g slba)) refl here away
+not_reached g h (cmd.Excursion nsid slba kind) z front has lt away =
+    other_zone (zone_of g slba) z (zone_with g slba) (deed.Excursion kind) (zone_with-has g slba (excursion_front-within g nsid slba kind front)) away
+not_reached g h _ z front has lt away = refl
 
-not_reached : (g : GeometryFields) (h : List Place) (c : Cmd) (z : ℕ) → is_success (status_by g h (rows_of g h c)) ≡ true → HasBlocks c → z < g.zones → is_among z (reach_of g c) ≡ false → commanded g h c z ≡ None
-not_reached g h (cmd.Write nsid slba blocks) z ok has lt away =
-    let fails = rows_fail g h (write_rows g (counts g h) (zone g h (zone_of g slba)) nsid slba blocks) refl ok in
-    other_zone (zone_of g slba) z (zones_with g slba blocks) action.Write (zones_with-has g slba blocks has.some (ltb-false _ _ fails.1.1.0)) away
-not_reached g h (cmd.Append nsid zslba blocks) z ok has lt away =
-    let fails = rows_fail g h (append_rows g (counts g h) (zone g h (zone_of g zslba)) nsid zslba blocks) refl ok in
-    other_zone (zone_of g zslba) z (zone_with g zslba) action.Write (zone_with-has g zslba (leb-false _ _ fails.1.1.0)) away
-not_reached g h (cmd.Send nsid slba act true option) z ok has lt away = absurd (cc (away, range-has 0 g.zones z (omega arith) (omega arith)))
-not_reached g h (cmd.Send nsid slba act false option) z ok has lt away =
-    let here = zone_with-has g slba (send_within g h nsid slba act option (action_of act) ok) in
-    sent_none (zone_of g slba == z) (state g h z) (action_of act) (λ a. other_zone (zone_of g slba) z (zone_with g slba) a here away)
-not_reached g h (cmd.Excursion nsid slba kind) z ok has lt away =
-    let fails = rows_fail g h (only (excursion_rows g (state g h (zone_of g slba)) nsid slba kind)) refl ok in
-    other_zone (zone_of g slba) z (zone_with g slba) (action.Excursion kind) (zone_with-has g slba (leb-false _ _ fails.1.1.0)) away
-not_reached g h _ z ok has lt away = refl
-
--- An act has no move of a zone out of its reach that isn't closed for another.
-pub unreached_unmoved : (g : GeometryFields) (h : List Place) (a : Act) (z : ℕ) → z < g.zones → is_reached g a z ≡ false → is_zone z (evicted g h a) ≡ false → zone_move g h a z ≡ None
-unreached_unmoved g h a z lt away stays = elim (cases_Bool (is_success (status g h a))) [
+-- Nothing is done to a zone out of an act's reach that doesn't give way.
+pub untouched_is_idle : (g : GeometryFields) (h : List Place) (a : Act) (z : ℕ) → z < g.zones → is_reached g a z ≡ false → is_zone z (evicted g h a) ≡ false → zone_deed g h a z ≡ None
+untouched_is_idle g h a z lt away stays = elim (cases_Bool (is_success (status g h a))) [
   | inl ok ↦
-      let none = not_reached g h (command_of a) z (ap is_success (sym (status-rows g h a)) ∙ ok) (some_blocks a) lt away in
-      move_taken g h a z ok ∙ rw (none, stays) refl
-  | inr refused ↦ move_refused g h a z refused
+      let none = not_reached g h (command_of a) z (success-front g h a ok) (some_blocks a) lt away in
+      deed-success g h a z ok ∙ rw (none, stays) refl
+  | inr refused ↦ deed-refused g h a z refused
 ]
 
-pub untouched_unchanged : (g : GeometryFields) (h : List Place) (a : Act) (z : ℕ) → z < g.zones → is_reached g a z ≡ false → is_zone z (evicted g h a) ≡ false → IsUnchanged g h (and_then g h a) z
-untouched_unchanged g h a z lt away stays = unmoved g h a z (unreached_unmoved g h a z lt away stays)
+pub untouched_stays : (g : GeometryFields) (h : List Place) (a : Act) (z : ℕ) → z < g.zones → is_reached g a z ≡ false → is_zone z (evicted g h a) ≡ false → IsUnchanged g h (and_then g h a) z
+untouched_stays g h a z lt away stays = idle-unchanged g h a z (untouched_is_idle g h a z lt away stays)

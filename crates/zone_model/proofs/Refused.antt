@@ -1,20 +1,44 @@
--- After a refused act the drive is as it was.
+-- A zone that nothing is done to stays as it was, and after a refused act the whole drive does.
 use Rattle.std.proofs.Common.{◌≡◌, ℕ, Bool, false, List, ◌∷◌, None, refl, ap, ◌∙◌, arith}
 use Rattle.std.specs.Prelude.{◌&&◌, not, drop}
 use Rattle.std.specs.List.{list_any}
+use mathlib.Core.Path.{fun_ext}
 use Rattle.std.proofs.lemmas.List.Elements.{filter_agree}
 use Rattle.zns_types.specs.declared.fields.GeometryFields.{GeometryFields}
 use Rattle.zns_types.specs.Statuses.{is_success}
+use Rattle.zone_limits.specs.declared.limits.Limits.{Limits}
+use Rattle.drive_rules.specs.Deeds.{use_of}
+use Rattle.zone_history.specs.Histories.{Done, state_of, window_of, pointer_of, block_of, attributes_of, sight_of}
 use Rattle.sqe_codec.specs.declared.cmd.Cmd.{Cmd}
 use Rattle.sqe_codec.specs.declared.cmd.Cmd.TheVariants as cmd
 use Rattle.zone_model.specs.declared.act.Act.{Act}
-use Rattle.zone_model.specs.Places.{Place, took, command_of, changed_zone, had_excursion, cleared, waited, since_cleared}
-use Rattle.zone_model.specs.Zones.{zones}
+use Rattle.zone_model.specs.Places.{Place, took, command_of, deeds, changed_zone, had_excursion, cleared, waited, since_cleared}
+use Rattle.zone_model.specs.Zones.{zones, counted, counts}
 use Rattle.zone_model.specs.Notices.{changed, enabled, enabled_by, masked, noticed, pending, requests, answered_requests, waiting}
-use Rattle.zone_model.specs.Answers.{status, fires, answer, and_then}
-use Rattle.zone_model.specs.Laws.{IsAsBefore}
-use Rattle.zone_model.proofs.Unmoved.{refused_unchanged}
-use Rattle.zone_model.proofs.Counts.{active-same, opened-same, windows-same}
+use Rattle.zone_model.specs.Answers.{status, fires, zone_deed, answer, and_then}
+use Rattle.zone_model.specs.Laws.{IsUnchanged, IsAsBefore}
+use Rattle.zone_model.proofs.Deeds.{deeds-idle, deed-refused}
+
+-- ---- zones
+
+-- a zone with the same deeds is the same
+pub unchanged : (g : GeometryFields) (old new : List Place) (z : ℕ) → deeds new z ≡ deeds old z → IsUnchanged g old new z
+unchanged g old new z same = record {
+  state = ap (state_of g) same;
+  window = ap (window_of g) same;
+  pointer = ap (pointer_of g) same;
+  blocks = λ b. ap (λ (ds : List Done). block_of g ds b) same;
+  attributes = ap (attributes_of g) same;
+}
+
+pub idle-unchanged : (g : GeometryFields) (h : List Place) (a : Act) (z : ℕ) → zone_deed g h a z ≡ None → IsUnchanged g h (and_then g h a) z
+idle-unchanged g h a z none = unchanged g h (and_then g h a) z (deeds-idle g h a z none)
+
+-- zones with the same deeds use as much
+pub counts-same : (g : GeometryFields) (old new : List Place) → ((z : ℕ) → deeds new z ≡ deeds old z) → counts g new ≡ counts g old
+counts-same g old new same = ap (λ (of : ℕ → List Done). counted g (λ z. use_of (sight_of g (of z)))) (fun_ext same)
+
+-- ---- notices
 
 -- a place that took nothing and answered no event request
 pub record IsIdle (p : Place) : Type 0 where
@@ -72,15 +96,17 @@ waiting-kept p h i =
     let same : requests (p ∷ h) ≡ requests h = rw (idle-waited p i) refl in
     ap (λ (n : ℕ). drop n (requests (p ∷ h))) none ∙ ap (λ (xs : List ℕ). drop (answered_requests h) xs) same
 
+-- ---- the drive
+
 pub refused_as_before : (g : GeometryFields) (h : List Place) (a : Act) → is_success (status g h a) ≡ false → IsAsBefore g h (and_then g h a)
 refused_as_before g h a refused =
     let i = idle_after g h a refused in
-    let same = refused_unchanged g h a refused in
+    let same = counts-same g h (and_then g h a) (λ z. deeds-idle g h a z (deed-refused g h a z refused)) in
     record {
-      zones = same;
-      active = active-same g h (and_then g h a) (λ x. (same x).state);
-      opened = opened-same g h (and_then g h a) (λ x. (same x).state);
-      windows = windows-same g h (and_then g h a) (λ x. (same x).window);
+      zones = λ z. idle-unchanged g h a z (deed-refused g h a z refused);
+      active = ap (λ (n : Limits). n.active) same;
+      opened = ap (λ (n : Limits). n.opened) same;
+      windows = ap (λ (n : Limits). n.windows) same;
       changed = changed-kept g (answer g h a) h i;
       enabled = enabled-kept (answer g h a) h i;
       masked = masked-kept (answer g h a) h i;

@@ -1,25 +1,25 @@
 -- Worked examples on reports, on the log page at its limit, and on the zones that an act reaches, computed.
-use Rattle.std.proofs.Common.{◌≡◌, ℕ, ◌-◌, ◌*◌, ◌≤◌, true, false, List, [], ◌∷◌, ◌++◌, length, map, take, refl}
+use Rattle.std.proofs.Common.{◌≡◌, ℕ, ◌-◌, ◌*◌, ◌<◌, ◌≤◌, true, false, List, [], ◌∷◌, ◌++◌, map, take, length, refl}
 use Rattle.std.specs.Prelude.{replicate}
 use Rattle.std.specs.List.{flat_map, range_with_len}
-use Rattle.std.proofs.lemmas.Bool.{le-ltb}
+use Rattle.std.proofs.lemmas.Bool.{le-ltb, lt-ltb}
+use Rattle.byteorder.specs.Endian.{little_bytes}
 use Rattle.zns_types.specs.declared.fields.GeometryFields.{GeometryFields}
 use Rattle.zns_types.specs.declared.state.State.{State}
 use Rattle.zns_types.specs.declared.state.State.TheVariants.{Empty, ImplicitlyOpened, ExplicitlyOpened, Closed, ReadOnly, Full, Offline}
 use Rattle.zns_types.specs.Geometry.{first}
-use Rattle.byteorder.specs.Endian.{little_bytes}
 use Rattle.sqe_codec.specs.Commands.{io_command, admin_command}
 use Rattle.zone_descriptor.specs.Descriptors.{descriptor_bytes}
-use Rattle.zone_model.specs.Places.{Place, wrote, opens_window, asked, excursed, had_excursion, cleared, waited, changed_zone}
-use Rattle.zone_model.specs.Zones.{pointer_after, state, window, block, active, opened, windows, attributes, descriptor}
+use Rattle.drive_rules.specs.Reports.{passes, changed_page}
+use Rattle.zone_history.specs.Histories.{pointer_since, state_of, window_of, block_of, attributes_of}
+use Rattle.zone_model.specs.Places.{Place, deeds, had_excursion, cleared, waited, changed_zone}
+use Rattle.zone_model.specs.Zones.{descriptor, counted, closed_zones}
 use Rattle.zone_model.specs.Notices.{enabled, changed, masked, pending, waiting}
-use Rattle.zone_model.specs.Answers.{status, evicted, zone_move, fires, answer, answered_back, answered}
-use Rattle.zone_model.specs.Entries.{acts_on, entries_on, result_of, posted}
+use Rattle.zone_model.specs.Answers.{status, evicted, zone_deed, fires, answer, answered_back, answered}
+use Rattle.zone_model.specs.Entries.{acts_on, entries_on, dwords_of, posted}
 use Rattle.zone_model.specs.Replies.{reply_bytes}
-use Rattle.zone_model.specs.Reports.{passes, changed_page}
 use Rattle.zone_model.specs.Reach.{reach}
-use Rattle.zone_model.proofs.Drive.{drive, act_on, read, reads, open_zone, flush_to, event_request, excursion, read_changed}
-use Rattle.zone_model.proofs.MoreActs.{put, add, finish, send_all, report_from, identify}
+use Rattle.zone_model.proofs.ExampleDrive.{drive, act_on, read, open_zone, commit_to, reads, event_request, excursion, read_changed, put, add, finish, send_all, report_from, identify}
 
 -- ---- reports
 
@@ -27,16 +27,7 @@ abbrev pub all_states : List State
 all_states = Empty ∷ ImplicitlyOpened ∷ ExplicitlyOpened ∷ Closed ∷ Full ∷ ReadOnly ∷ Offline ∷ []
 
 -- the state of each filter, after the one that passes all
-filters : map (λ kind. map (passes kind) all_states) (range_with_len 0 8)
-    ≡ replicate 7 true
-    ∷ (true ∷ false ∷ false ∷ false ∷ false ∷ false ∷ false ∷ [])
-    ∷ (false ∷ true ∷ false ∷ false ∷ false ∷ false ∷ false ∷ [])
-    ∷ (false ∷ false ∷ true ∷ false ∷ false ∷ false ∷ false ∷ [])
-    ∷ (false ∷ false ∷ false ∷ true ∷ false ∷ false ∷ false ∷ [])
-    ∷ (false ∷ false ∷ false ∷ false ∷ true ∷ false ∷ false ∷ [])
-    ∷ (false ∷ false ∷ false ∷ false ∷ false ∷ true ∷ false ∷ [])
-    ∷ (false ∷ false ∷ false ∷ false ∷ false ∷ false ∷ true ∷ [])
-    ∷ []
+filters : map (λ kind. map (passes kind) all_states) (range_with_len 0 8) ≡ replicate 7 true ∷ (true ∷ false ∷ false ∷ false ∷ false ∷ false ∷ false ∷ []) ∷ (false ∷ true ∷ false ∷ false ∷ false ∷ false ∷ false ∷ []) ∷ (false ∷ false ∷ true ∷ false ∷ false ∷ false ∷ false ∷ []) ∷ (false ∷ false ∷ false ∷ true ∷ false ∷ false ∷ false ∷ []) ∷ (false ∷ false ∷ false ∷ false ∷ true ∷ false ∷ false ∷ []) ∷ (false ∷ false ∷ false ∷ false ∷ false ∷ true ∷ false ∷ []) ∷ (false ∷ false ∷ false ∷ false ∷ false ∷ false ∷ true ∷ []) ∷ []
 filters = refl
 
 -- zone 1 was written, and the others are Empty
@@ -52,22 +43,22 @@ head number = number ∷ replicate 63 0
 
 -- room for two of four zones: all are counted, or with Partial the two
 reports-whole : reads drive one_written (report_from 0 192 0 0 ∷ report_from 0 192 0 1 ∷ []) ≡ (head 4 ++ (shown 0 ++ shown 1)) ∷ (head 2 ++ (shown 0 ++ shown 1)) ∷ []
-unfolding io_command admin_command wrote opens_window asked excursed had_excursion cleared waited changed_zone pointer_after state window block active opened windows attributes enabled changed masked pending waiting status evicted zone_move fires answer answered_back answered acts_on entries_on result_of posted reply_bytes
+unfolding io_command admin_command deeds pointer_since state_of window_of block_of attributes_of counted closed_zones had_excursion cleared waited changed_zone changed enabled masked pending waiting status evicted zone_deed fires answer answered_back answered acts_on entries_on dwords_of posted reply_bytes
 reports-whole = refl
 
 -- the Empty zones, the Implicitly Opened one, and the Full ones, of which there are none
 reports-filtered : reads drive one_written (report_from 0 320 1 0 ∷ report_from 0 192 1 1 ∷ report_from 0 128 2 0 ∷ report_from 0 128 5 1 ∷ []) ≡ (head 3 ++ (shown 0 ++ (shown 2 ++ (shown 3 ++ replicate 64 0)))) ∷ (head 2 ++ (shown 0 ++ shown 2)) ∷ (head 1 ++ shown 1) ∷ (head 0 ++ replicate 64 0) ∷ []
-unfolding io_command admin_command wrote opens_window asked excursed had_excursion cleared waited changed_zone pointer_after state window block active opened windows attributes enabled changed masked pending waiting status evicted zone_move fires answer answered_back answered acts_on entries_on result_of posted reply_bytes
+unfolding io_command admin_command deeds pointer_since state_of window_of block_of attributes_of counted closed_zones had_excursion cleared waited changed_zone changed enabled masked pending waiting status evicted zone_deed fires answer answered_back answered acts_on entries_on dwords_of posted reply_bytes
 reports-filtered = refl
 
 -- from the zone of a block on
 reports-from : reads drive one_written (report_from 100 320 0 0 ∷ report_from 255 128 0 0 ∷ []) ≡ (head 3 ++ (shown 1 ++ (shown 2 ++ (shown 3 ++ replicate 64 0)))) ∷ (head 1 ++ shown 3) ∷ []
-unfolding io_command admin_command wrote opens_window asked excursed had_excursion cleared waited changed_zone pointer_after state window block active opened windows attributes enabled changed masked pending waiting status evicted zone_move fires answer answered_back answered acts_on entries_on result_of posted reply_bytes
+unfolding io_command admin_command deeds pointer_since state_of window_of block_of attributes_of counted closed_zones had_excursion cleared waited changed_zone changed enabled masked pending waiting status evicted zone_deed fires answer answered_back answered acts_on entries_on dwords_of posted reply_bytes
 reports-from = refl
 
 -- no descriptor is cut, but the head is
 reports-short : reads drive one_written (report_from 0 4 0 0 ∷ report_from 0 124 0 0 ∷ report_from 0 124 0 1 ∷ report_from 0 188 0 1 ∷ []) ≡ (4 ∷ 0 ∷ 0 ∷ 0 ∷ []) ∷ (head 4 ++ replicate 60 0) ∷ (head 0 ++ replicate 60 0) ∷ (head 1 ++ (shown 0 ++ replicate 60 0)) ∷ []
-unfolding io_command admin_command wrote opens_window asked excursed had_excursion cleared waited changed_zone pointer_after state window block active opened windows attributes enabled changed masked pending waiting status evicted zone_move fires answer answered_back answered acts_on entries_on result_of posted reply_bytes
+unfolding io_command admin_command deeds pointer_since state_of window_of block_of attributes_of counted closed_zones had_excursion cleared waited changed_zone changed enabled masked pending waiting status evicted zone_deed fires answer answered_back answered acts_on entries_on dwords_of posted reply_bytes
 reports-short = refl
 
 -- ---- the log page
@@ -77,14 +68,16 @@ pub listing-page : (g : GeometryFields) (zones : List ℕ) → length zones ≤ 
     → changed_page g zones ≡ little_bytes 2 (length zones) ++ (replicate 6 0 ++ (flat_map (λ z. little_bytes 8 (first g z)) zones ++ replicate (4096 - 8 - 8 * length zones) 0))
 listing-page g zones few = rw (le-ltb 511 (length zones) few) refl
 
--- its first 12 bytes, and 4,100 bytes
-log-longer : map (take 16) (reads drive (answered drive (excursion 1 64 4 ∷ [])) (act_on 0 0x02 1 0x000280bf 0 0 0 [] ∷ [])) ≡ (1 ∷ 0 ∷ 0 ∷ 0 ∷ 0 ∷ 0 ∷ 0 ∷ 0 ∷ 64 ∷ 0 ∷ 0 ∷ 0 ∷ []) ∷ []
-unfolding io_command admin_command wrote opens_window asked excursed had_excursion cleared waited changed_zone pointer_after state window block active opened windows attributes enabled changed masked pending waiting status evicted zone_move fires answer answered_back answered acts_on entries_on result_of posted reply_bytes
-log-longer = refl
+-- more zones than a page lists are only said to be too many
+pub overflowing-page : (g : GeometryFields) (zones : List ℕ) → 511 < length zones → changed_page g zones ≡ little_bytes 2 0xffff ++ replicate 4094 0
+overflowing-page g zones more = rw (lt-ltb 511 (length zones) more) refl
 
-log-length : map length (reads drive (answered drive (excursion 1 64 4 ∷ [])) (act_on 0 0x02 1 0x000280bf 0 0 0 [] ∷ act_on 0 0x02 1 0x040080bf 0 0 0 [] ∷ [])) ≡ 12 ∷ 4100 ∷ []
-unfolding io_command admin_command wrote opens_window asked excursed had_excursion cleared waited changed_zone pointer_after state window block active opened windows attributes enabled changed masked pending waiting status evicted zone_move fires answer answered_back answered acts_on entries_on result_of posted reply_bytes
-log-length = refl
+-- its first 12 bytes, and 4,100 bytes
+log-facts :
+    (map (take 16) (reads drive (answered drive (excursion 1 64 4 ∷ [])) (act_on 0 0x02 1 0x000280bf 0 0 0 [] ∷ [])) ≡ (1 ∷ 0 ∷ 0 ∷ 0 ∷ 0 ∷ 0 ∷ 0 ∷ 0 ∷ 64 ∷ 0 ∷ 0 ∷ 0 ∷ []) ∷ [])
+    × (map length (reads drive (answered drive (excursion 1 64 4 ∷ [])) (act_on 0 0x02 1 0x000280bf 0 0 0 [] ∷ act_on 0 0x02 1 0x040080bf 0 0 0 [] ∷ [])) ≡ 12 ∷ 4100 ∷ [])
+unfolding io_command admin_command deeds pointer_since state_of window_of block_of attributes_of counted closed_zones had_excursion cleared waited changed_zone changed enabled masked pending waiting status evicted zone_deed fires answer answered_back answered acts_on entries_on dwords_of posted reply_bytes
+log-facts = (refl, refl)
 
 -- ---- reach
 
@@ -97,7 +90,7 @@ unfolding io_command admin_command
 reach-blocks = refl
 
 -- an Append, a Send and an excursion: the zone of the block
-reach-zone : map (reach drive) (add 130 100 ∷ add 256 1 ∷ open_zone 64 ∷ open_zone 255 ∷ finish 256 ∷ flush_to 70 ∷ excursion 1 128 4 ∷ excursion 1 256 4 ∷ []) ≡ (2 ∷ []) ∷ [] ∷ (1 ∷ []) ∷ (3 ∷ []) ∷ [] ∷ (1 ∷ []) ∷ (2 ∷ []) ∷ [] ∷ []
+reach-zone : map (reach drive) (add 130 100 ∷ add 256 1 ∷ open_zone 64 ∷ open_zone 255 ∷ finish 256 ∷ commit_to 70 ∷ excursion 1 128 4 ∷ excursion 1 256 4 ∷ []) ≡ (2 ∷ []) ∷ [] ∷ (1 ∷ []) ∷ (3 ∷ []) ∷ [] ∷ (1 ∷ []) ∷ (2 ∷ []) ∷ [] ∷ []
 unfolding io_command admin_command
 reach-zone = refl
 

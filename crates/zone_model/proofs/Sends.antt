@@ -1,19 +1,20 @@
--- The commands that entries spell, and the actions that they ask for.
-use Rattle.std.proofs.Common.{◌≡◌, ℕ, ◌+◌, ◌*◌, ◌≤◌, Bool, true, false, cond, List, Option, Some, None, refl, sym, ap, ◌∙◌, arith}
+-- The commands that entries spell, and the deeds that they ask for.
+use Rattle.std.proofs.Common.{◌≡◌, ℕ, ◌+◌, ◌*◌, ◌≤◌, Bool, true, false, cond, List, Option, Some, None, refl, sym, ap, subst, arith}
 use Rattle.std.specs.Prelude.{◌==◌}
-use Rattle.std.proofs.lemmas.Bool.{eqb-true}
-use Rattle.zns_types.specs.declared.state.State.{State}
+use Rattle.zns_types.specs.declared.fields.GeometryFields.{GeometryFields}
+use Rattle.zns_types.specs.Geometry.{zone_of, offset_of}
 use Rattle.zns_types.specs.Fields.{bits, bit, dword, long}
 use Rattle.sqe_codec.specs.declared.cmd.Cmd.{Cmd}
 use Rattle.sqe_codec.specs.declared.cmd.Cmd.TheVariants as cmd
 use Rattle.sqe_codec.specs.Commands.{io_command, admin_command, opcode_of, nsid_of, blocks_of, log_bytes_of}
-use Rattle.zone_state.specs.declared.action.Action.{Action}
-use Rattle.zone_state.specs.declared.action.Action.TheVariants as action
+use Rattle.drive_rules.specs.declared.deed.Deed.{Deed}
+use Rattle.drive_rules.specs.declared.deed.Deed.TheVariants as deed
+use Rattle.drive_rules.specs.declared.aim.Aim.{Aim}
+use Rattle.drive_rules.specs.Deeds as deeds
+use Rattle.drive_rules.specs.Aims.{open_code, commit_code, sent_deed, aimed_at, aim_of}
+use Rattle.zone_history.specs.Admitted.{is_write}
 use Rattle.zone_model.specs.declared.act.Act.{Act}
-use Rattle.zone_model.specs.Places.{command_of, open_code, flush_code}
-use Rattle.zone_model.specs.Refusals.{action_of}
-use Rattle.zone_model.specs.Answers.{takes_all, sent}
-use Rattle.zone_model.proofs.Passing.{some_if}
+use Rattle.zone_model.specs.Places.{command_of}
 
 -- ---- blocks
 
@@ -54,49 +55,47 @@ admin_blocks e =
 pub some_blocks : (a : Act) → HasBlocks (command_of a)
 some_blocks a = of_either (a.queue == 0) (admin_command a.sqe.bytes) (io_command a.sqe.bytes) (admin_blocks a.sqe.bytes) (io_blocks a.sqe.bytes)
 
--- ---- actions
+-- ---- the deeds of a Send
 
--- the code of an action that a host can send
-abbrev pub code_of : Action → ℕ
-code_of action.Close = 0x01
-code_of action.Finish = 0x02
-code_of action.Open = open_code
-code_of action.Reset = 0x04
-code_of action.Offline = 0x05
-code_of action.Flush = flush_code
-code_of _ = 0
+-- what holds of each deed that a Send can ask for holds of the one that it asks for
+pub record HoldsOfSent (P : Deed → Type 0) (code : ℕ) (option : Bool) (last : ℕ) : Type 0 where
+  pub close : P deed.Close
+  pub finish : P deed.Finish
+  pub opens : (code == open_code) ≡ true → P (deed.Open option)
+  pub reset : P deed.Reset
+  pub offline : P deed.Offline
+  pub commit : P (deed.Commit last)
 
-abbrev pub is_sendable : Action → Bool
-is_sendable action.Write = false
-is_sendable (action.Excursion kind) = false
-is_sendable _ = true
-
-pub record IsCoded (n : ℕ) (m : Action) : Type 0 where
-  pub code : n ≡ code_of m
-  pub sendable : is_sendable m ≡ true
-
-coded : (n k : ℕ) (a m : Action) (rest : Option Action) → k ≡ code_of a → is_sendable a ≡ true → (rest ≡ Some m → IsCoded n m) → cond (n == k) (Some a) rest ≡ Some m → IsCoded n m
-coded n k a m rest code sendable others = by_first (n == k) refl
+pub sent-holds : (P : Deed → Type 0) (code : ℕ) (option : Bool) (last : ℕ) (d : Deed) → HoldsOfSent P code option last → sent_deed code option last ≡ Some d → P d
+sent-holds P code option last d all =
+    either (code == 0x01) deed.Close _ (λ is. all.close)
+    (either (code == 0x02) deed.Finish _ (λ is. all.finish)
+    (either (code == open_code) (deed.Open option) _ (λ is. all.opens is)
+    (either (code == 0x04) deed.Reset _ (λ is. all.reset)
+    (either (code == 0x05) deed.Offline _ (λ is. all.offline)
+    (either (code == commit_code) (deed.Commit last) _ (λ is. all.commit) (λ e. absurd (cc e)))))))
   where
-    by_first : (b : Bool) → (n == k) ≡ b → cond b (Some a) rest ≡ Some m → IsCoded n m
-    by_first true is e =
-        let same : a ≡ m = cc in
-        record { code = eqb-true n k is ∙ code ∙ ap code_of same; sendable = ap is_sendable (sym same) ∙ sendable }
-    by_first false is e = others e
+    either : (b : Bool) (x : Deed) (rest : Option Deed) → (b ≡ true → P x) → (rest ≡ Some d → P d) → cond b (Some x) rest ≡ Some d → P d
+    either true x rest first others e = let same : x ≡ d = cc in subst P same (first refl)
+    either false x rest first others e = others e
 
--- a code that asks for an action is its code
-pub action_of-code : (n : ℕ) (m : Action) → action_of n ≡ Some m → IsCoded n m
-action_of-code n m =
-    coded n 0x01 action.Close m _ refl refl
-    (coded n 0x02 action.Finish m _ refl refl
-    (coded n open_code action.Open m _ refl refl
-    (coded n 0x04 action.Reset m _ refl refl
-    (coded n 0x05 action.Offline m _ refl refl
-    (coded n flush_code action.Flush m _ refl refl (λ e. absurd cc))))))
+pub sent-no_write : (code : ℕ) (option : Bool) (last : ℕ) (d : Deed) → sent_deed code option last ≡ Some d → is_write d ≡ false
+sent-no_write code option last d = sent-holds (λ x. is_write x ≡ false) code option last d (record { close = refl; finish = refl; opens = λ is. refl; reset = refl; offline = refl; commit = refl })
 
--- a Send's action that a zone takes is the one that was sent, and the zone is one of those that it goes to
-pub sent_from : (all here : Bool) (s : State) (o : Option Action) (m : Action) → sent all here s o ≡ Some m → (o ≡ Some m) × (cond all (takes_all m s) here ≡ true)
-sent_from all here s None m e = absurd (cc e)
-sent_from all here s (Some a) m e =
-    let is = some_if (cond all (takes_all a s) here) a m e in
-    (ap Some is.1, ap (λ (b : Action). cond all (takes_all b s) here) (sym is.1) ∙ is.0)
+-- ---- aims
+
+-- a Send's aim has the deed that was sent
+pub aimed-deed : (zone : ℕ) (o : Option Deed) (aim : Aim) → aimed_at zone o ≡ Some aim → (aim.zone ≡ zone) × (o ≡ Some aim.deed)
+aimed-deed zone None aim e = absurd (cc e)
+aimed-deed zone (Some d) aim e = let same : record { zone = zone; deed = d } ≡ aim = cc in (ap (λ (x : Aim). x.zone) (sym same), ap (λ (x : Aim). Some x.deed) same)
+
+-- a write that a command aims at a zone has one block or more
+pub aim-blocks : (g : GeometryFields) (k : Cmd) (aim : Aim) → HasBlocks k → aim_of g k ≡ Some aim → is_write aim.deed ≡ true → 1 ≤ deeds.blocks_of aim.deed
+aim-blocks g (cmd.Write nsid slba blocks) aim has e write = let same : deed.Write (offset_of g slba) blocks ≡ aim.deed = cc in subst (λ (d : Deed). 1 ≤ deeds.blocks_of d) same has.some
+aim-blocks g (cmd.Append nsid zslba blocks) aim has e write = let same : deed.Append blocks ≡ aim.deed = cc in subst (λ (d : Deed). 1 ≤ deeds.blocks_of d) same has.some
+aim-blocks g (cmd.Send nsid slba act true option) aim has e write = absurd (cc e)
+aim-blocks g (cmd.Send nsid slba act false option) aim has e write =
+    let is = aimed-deed (zone_of g slba) (sent_deed act option (offset_of g slba)) aim e in
+    absurd (cc (write, sent-no_write act option (offset_of g slba) aim.deed is.1))
+aim-blocks g (cmd.Excursion nsid slba kind) aim has e write = let same : deed.Excursion kind ≡ aim.deed = cc in absurd (cc (write, ap is_write same))
+aim-blocks g _ aim has e write = absurd (cc e)

@@ -10,7 +10,7 @@ use Rattle.cqe_codec.specs.declared.cqe.Cqe.{Cqe}
 use Rattle.zone_model.specs.declared.act.Act.{Act}
 use Rattle.zone_model.specs.Places.{Place, command_of, is_event_request, had_excursion, waited, total}
 use Rattle.zone_model.specs.Zones.{pointer}
-use Rattle.zone_state.specs.Shown.{one}
+use Rattle.drive_rules.specs.Shown.{one}
 use Rattle.zone_model.specs.Notices.{enabled}
 use Rattle.zone_model.specs.Answers.{status, fires}
 
@@ -26,60 +26,65 @@ posted_on queue p = one ((p.act.queue == queue) && not (waited p)) + one ((queue
 unfoldable pub entries_on : ℕ → List Place → ℕ
 entries_on queue h = total (posted_on queue) h
 
--- the head that a queue's entries show: its acts so far, the newest among them, in a ring of this depth
-abbrev pub head_of : GeometryFields → ℕ → ℕ
-head_of g acts = acts % g.depth
+-- how many entries a queue's ring holds
+abbrev pub depth_of : GeometryFields → ℕ → ℕ
+depth_of g queue = g.depth
+
+-- the head that a queue's entries show: its acts so far, the newest among them, in a ring of its depth
+abbrev pub head_of : GeometryFields → ℕ → ℕ → ℕ
+head_of g queue acts = acts % depth_of g queue
 
 -- the phase tag of a queue's entry number k from 0: 1 in the first turn of the ring, 0 in the second, and so on
-abbrev pub phase_of : GeometryFields → ℕ → Bool
-phase_of g k = k / g.depth % 2 == 0
+abbrev pub phase_of : GeometryFields → ℕ → ℕ → Bool
+phase_of g queue k = k / depth_of g queue % 2 == 0
 
--- the two dwords of a result
-pub record Result : Type 0 where
+-- dwords 0 and 1 of a completion entry
+pub record Dwords : Type 0 where
   pub dw0 : ℕ
   pub dw1 : ℕ
 
-abbrev pub no_result : Result
-no_result = record { dw0 = 0; dw1 = 0 }
+abbrev pub no_dwords : Dwords
+no_dwords = record { dw0 = 0; dw1 = 0 }
 
 -- a block's number, the low half first
-abbrev pub block_result : ℕ → Result
-block_result lba = record { dw0 = lba % 2 ^ 32; dw1 = lba / 2 ^ 32 }
+abbrev pub block_dwords : ℕ → Dwords
+block_dwords lba = record { dw0 = lba % 2 ^ 32; dw1 = lba / 2 ^ 32 }
 
 -- zone descriptor changed, and the page that lists the zones; namespace 1
-abbrev pub event_result : Result
-event_result = record { dw0 = 0x00bfef02; dw1 = 1 }
+abbrev pub event_dwords : Dwords
+event_dwords = record { dw0 = 0x00bfef02; dw1 = 1 }
 
 -- what a command that succeeds gives beside its bytes
-abbrev pub result_by : GeometryFields → List Place → Option ℕ → Cmd → Result
-result_by g h fired (cmd.Append nsid zslba blocks) = block_result (first g (zone_of g zslba) + pointer g h (zone_of g zslba))
-result_by g h fired (cmd.GetFeature feature) = record { dw0 = if enabled h then 0x08000000 else 0; dw1 = 0 }
-result_by g h fired cmd.Event = event_result
-result_by g h fired _ = no_result
+abbrev pub dwords_by : GeometryFields → List Place → Option ℕ → Cmd → Dwords
+dwords_by g h fired (cmd.Append nsid zslba blocks) = block_dwords (first g (zone_of g zslba) + pointer g h (zone_of g zslba))
+dwords_by g h fired (cmd.GetFeature feature) = record { dw0 = if enabled h then 0x08000000 else 0; dw1 = 0 }
+dwords_by g h fired cmd.Event = event_dwords
+dwords_by g h fired _ = no_dwords
 
-unfoldable pub result_of : GeometryFields → List Place → Act → Result
-result_of g h a = if is_success (status g h a) then result_by g h (fires g h a) (command_of a) else no_result
+-- What an act gives in dwords 0 and 1 of its entry.
+unfoldable pub dwords_of : GeometryFields → List Place → Act → Dwords
+dwords_of g h a = if is_success (status g h a) then dwords_by g h (fires g h a) (command_of a) else no_dwords
 
 -- an entry of a queue, which has had so many acts and entries, for the command with this number
-abbrev pub entry : GeometryFields → ℕ → ℕ → ℕ → ℕ → Status → Result → Cqe
-entry g queue acts entries cid status result = record {
-  dw0 = result.dw0;
-  dw1 = result.dw1;
-  head = head_of g acts;
+abbrev pub entry : GeometryFields → ℕ → ℕ → ℕ → ℕ → Status → Dwords → Cqe
+entry g queue acts entries cid status dwords = record {
+  dw0 = dwords.dw0;
+  dw1 = dwords.dw1;
+  head = head_of g queue acts;
   sqid = queue;
   cid = cid;
-  phase = phase_of g entries;
+  phase = phase_of g queue entries;
   code = status;
   dnr = do_not_retry status;
 }
 
 -- the act's own entry
 abbrev pub own_entry : GeometryFields → List Place → Act → Cqe
-own_entry g h a = entry g a.queue (acts_on a.queue h + 1) (entries_on a.queue h) (cid_of a.sqe.bytes) (status g h a) (result_of g h a)
+own_entry g h a = entry g a.queue (acts_on a.queue h + 1) (entries_on a.queue h) (cid_of a.sqe.bytes) (status g h a) (dwords_of g h a)
 
--- the entry of an event request on the admin queue that an act there answers: it comes behind the act's own
+-- the entry of an event request on the admin queue that an act there answers: it comes after the act's own
 abbrev pub event_entry : GeometryFields → List Place → ℕ → Cqe
-event_entry g h cid = entry g 0 (acts_on 0 h + 1) (entries_on 0 h + 1) cid success event_result
+event_entry g h cid = entry g 0 (acts_on 0 h + 1) (entries_on 0 h + 1) cid success event_dwords
 
 -- an event request that succeeds and is not answered at once
 abbrev pub waits : GeometryFields → List Place → Act → Bool
@@ -89,7 +94,7 @@ abbrev pub event_entries : GeometryFields → List Place → Cmd → Option ℕ 
 event_entries g h (cmd.Excursion nsid slba kind) (Some cid) = event_entry g h cid ∷ []
 event_entries g h _ _ = []
 
--- An act posts its own entry, unless it is an event request that waits, and behind it the entry of the event request
+-- An act posts its own entry, unless it is an event request that waits, and after it the entry of the event request
 -- that it answers.
 unfoldable pub posted : GeometryFields → List Place → Act → List Cqe
 posted g h a = if waits g h a then [] else own_entry g h a ∷ event_entries g h (command_of a) (fires g h a)

@@ -1,24 +1,25 @@
 -- Laws of every history. Each is the contract of a function.
-use Rattle.std.specs.Prelude.{◌≡◌, ◌≢◌, ℕ, ◌+◌, ◌<◌, Bool, true, false, ◌==◌, List, ◌∷◌, ◌++◌, Option, Some, None, is_ok}
+use Rattle.std.specs.Prelude.{◌≡◌, ◌≢◌, ℕ, ◌<◌, Bool, true, false, ◌==◌, List, ◌∷◌, ◌++◌, Option, Some, None, is_ok}
 use Rattle.std.specs.List.{list_any}
 use Rattle.zns_types.specs.declared.fields.GeometryFields.{GeometryFields}
 use Rattle.zns_types.specs.Statuses.{Status, is_success}
 use Rattle.zns_types.specs.Rows.{Row}
 use Rattle.zns_types.specs.declared.state.State.{State}
 use Rattle.zns_types.specs.States.{is_offline}
-use Rattle.zns_types.specs.Geometry.{IsGeometry, offset_of}
-use Rattle.sqe_codec.specs.declared.cmd.Cmd.{Cmd}
-use Rattle.sqe_codec.specs.declared.cmd.Cmd.TheVariants as cmd
+use Rattle.zns_types.specs.Geometry.{IsGeometry}
 use Rattle.zone_state.specs.declared.action.Action.{Action}
 use Rattle.zone_state.specs.declared.action.Action.TheVariants as action
 use Rattle.zone_state.specs.Transitions.{after, go}
 use Rattle.zone_limits.specs.Resources.{AreWithin}
-use Rattle.zrwa_commit.specs.Windows.{FewestGranules}
+use Rattle.zrwa_commit.specs.Least.{IsLeast}
+use Rattle.drive_rules.specs.declared.deed.Deed.{Deed}
+use Rattle.zone_history.specs.Histories.{since}
+use Rattle.zone_history.specs.Moves.{HowMoved, IsBoundary}
 use Rattle.zone_model.specs.declared.act.Act.{Act}
-use Rattle.zone_model.specs.Places.{Place, command_of, is_reset, is_finish}
+use Rattle.zone_model.specs.Places.{Place, command_of, deeds}
 use Rattle.zone_model.specs.Zones.{state, window, pointer, block, seen, committed, attributes, active, opened, windows, counts}
 use Rattle.zone_model.specs.Notices.{changed, enabled, masked, pending, waiting}
-use Rattle.zone_model.specs.Answers.{status, rows_of, all_rows, evicted, is_zone, zone_move, and_then, answered}
+use Rattle.zone_model.specs.Answers.{status, table_of, all_rows, evicted, is_zone, zone_deed, zone_move, and_then, answered}
 use Rattle.zone_model.specs.Reach.{reach}
 
 -- ---- refusals
@@ -59,23 +60,32 @@ pub record FirstHolds (rows : List (Row Status)) (code : Status) : Type 0 where
 
 -- A refused act has the code of the first row of its command that holds.
 abbrev pub FirstRefusal : Type 0
-FirstRefusal = (g : GeometryFields) (h : List Place) (a : Act) → is_success (status g h a) ≡ false → FirstHolds (all_rows g h (rows_of g h (command_of a))) (status g h a)
+FirstRefusal = (g : GeometryFields) (h : List Place) (a : Act) → is_success (status g h a) ≡ false → FirstHolds (all_rows g h (table_of g h (command_of a))) (status g h a)
 
 -- ---- zones out of reach
 
 abbrev pub is_reached : GeometryFields → Act → ℕ → Bool
 is_reached g a z = list_any (λ y. y == z) (reach g a)
 
--- A zone that is out of an act's reach, and isn't closed for another, stays as it was.
+-- Nothing is done to a zone that is out of an act's reach, and isn't closed for another.
+abbrev pub UntouchedIsIdle : Type 0
+UntouchedIsIdle = (g : GeometryFields) (h : List Place) (a : Act) (z : ℕ) → z < g.zones → is_reached g a z ≡ false → is_zone z (evicted g h a) ≡ false → zone_deed g h a z ≡ None
+
+-- So it stays as it was.
 abbrev pub UntouchedStays : Type 0
 UntouchedStays = (g : GeometryFields) (h : List Place) (a : Act) (z : ℕ) → z < g.zones → is_reached g a z ≡ false → is_zone z (evicted g h a) ≡ false → IsUnchanged g h (and_then g h a) z
 
 -- ---- committed blocks
 
--- the move leads to Offline
+-- the deed leads to Offline
 abbrev pub goes_offline : State → Option Action → Bool
 goes_offline s None = false
 goes_offline s (Some a) = is_offline (after a s)
+
+-- the action is a reset
+abbrev pub is_reset : Option Action → Bool
+is_reset (Some action.Reset) = true
+is_reset _ = false
 
 -- a block is still committed, and reads the same
 pub record IsKeptBlock (g : GeometryFields) (old new : List Place) (z b : ℕ) : Type 0 where
@@ -91,31 +101,25 @@ CommittedStays = (g : GeometryFields) → IsGeometry g → (acts : List Act) (a 
 
 -- ---- pointers
 
--- the block up to which a flush commits, as an offset
-abbrev pub flush_last : GeometryFields → Cmd → ℕ
-flush_last g (cmd.Send nsid slba act all option) = offset_of g slba
-flush_last g _ = 0
-
--- where a Write ends, as an offset
-abbrev pub write_end : GeometryFields → Cmd → ℕ
-write_end g (cmd.Write nsid slba blocks) = offset_of g slba + blocks
-write_end g _ = 0
-
--- How an act moves the pointer of a zone with a random write area from p to q: a flush commits up to its last block;
--- a Write that ends past the area moves it by the fewest granules that let it end inside, and not to the capacity; a
--- reset leads to the start, and a finish, also by the controller, to the capacity.
-pub data HowMoved (g : GeometryFields) (h : List Place) (a : Act) (z p q : ℕ) : Type 0 where
-  flushed : zone_move g h a z ≡ Some action.Flush → q ≡ flush_last g (command_of a) + 1 → HowMoved g h a z p q
-  overrun : zone_move g h a z ≡ Some action.Write → p + g.window < write_end g (command_of a) → FewestGranules g p (write_end g (command_of a)) q → q < g.capacity → HowMoved g h a z p q
-  reset : is_reset (zone_move g h a z) ≡ true → q ≡ 0 → HowMoved g h a z p q
-  finished : is_finish (zone_move g h a z) ≡ true → q ≡ g.capacity → HowMoved g h a z p q
+-- a deed was done to the zone, and moved its pointer in one of the ways
+pub record HasMoved (g : GeometryFields) (h : List Place) (a : Act) (z : ℕ) : Type 0 where
+  pub deed : Deed
+  pub done : zone_deed g h a z ≡ Some deed
+  pub how : HowMoved g deed (pointer g h z) (pointer g (and_then g h a) z)
 
 abbrev pub MovesPointers : GeometryFields → List Place → Act → Type 0
-MovesPointers g h a = (z : ℕ) → window g h z ≡ true → pointer g (and_then g h a) z ≢ pointer g h z → HowMoved g h a z (pointer g h z) (pointer g (and_then g h a) z)
+MovesPointers g h a = (z : ℕ) → window g h z ≡ true → pointer g (and_then g h a) z ≢ pointer g h z → HasMoved g h a z
 
--- Where a zone has a random write area, its pointer moves in no other way.
+-- The pointer of a zone with a random write area moves in no other way: a commit moves it past its last block, a Write
+-- by the fewest granules that let it end inside the area, and a reset and a finish lead to the start and the capacity.
 abbrev pub PointerMoves : Type 0
 PointerMoves = (g : GeometryFields) → IsGeometry g → (acts : List Act) (a : Act) → MovesPointers g (answered g acts) a
+
+-- The pointer of a zone with a random write area is the least multiple of the granule at or past what was written before
+-- the area was asked for, past the last block of each commit, and where each Write ends inside the area.
+abbrev pub PointerIsLeast : Type 0
+PointerIsLeast = (g : GeometryFields) → IsGeometry g → (acts : List Act) (z : ℕ) → window g (answered g acts) z ≡ true
+    → IsLeast (IsBoundary g (since (deeds (answered g acts) z))) (pointer g (answered g acts) z)
 
 -- ---- transitions
 

@@ -9,7 +9,7 @@ use Rattle.sqe_codec.specs.declared.cmd.Cmd.TheVariants as cmd
 use Rattle.sqe_codec.specs.Commands.{cid_of}
 use Rattle.zone_model.specs.Places.{Place, took, command_of, changed_zone, had_excursion, cleared, waited, since_cleared, total}
 use Rattle.zone_model.specs.Zones.{zones}
-use Rattle.zone_state.specs.Shown.{one}
+use Rattle.drive_rules.specs.Shown.{one}
 
 -- The zones in which an excursion took since they were last read and cleared, rising.
 unfoldable pub changed : GeometryFields → List Place → List ℕ

@@ -7,7 +7,7 @@ use Rattle.sqe_codec.specs.declared.cmd.Cmd.TheVariants as cmd
 use Rattle.zone_model.specs.declared.act.Act.{Act}
 use Rattle.zone_model.specs.Places.{command_of}
 use Rattle.zone_model.specs.Zones.{zones}
-use Rattle.zone_model.specs.Refusals.{zones_between, last_zone}
+use Rattle.drive_rules.specs.Tables.{zones_between, last_zone}
 
 -- the zone of a block, where the namespace has the block
 abbrev pub zone_with : GeometryFields → ℕ → List ℕ

@@ -12,7 +12,7 @@ use Rattle.zone_model.specs.declared.act.Act.{Act}
 use Rattle.zone_model.specs.Places.{Place, command_of}
 use Rattle.zone_model.specs.Zones.{seen, zones, descriptor}
 use Rattle.zone_model.specs.Notices.{changed}
-use Rattle.zone_model.specs.Reports.{report, changed_page, first_bytes}
+use Rattle.drive_rules.specs.Reports.{report, changed_page, first_bytes}
 use Rattle.zone_model.specs.Answers.{status}
 
 abbrev pub descriptors : GeometryFields → List Place → List Descriptor

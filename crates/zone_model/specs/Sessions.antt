@@ -1,5 +1,5 @@
 -- Sessions and results, and the bytes that spell them.
-use Rattle.std.specs.Prelude.{◌≡◌, ℕ, ◌+◌, ◌^◌, ◌<◌, ◌≤◌, Bool, ◌==◌, if◌then◌else◌, List, [], ◌∷◌, ◌++◌, map, length, replicate, count_by, find, Option, Some, None, All, codes}
+use Rattle.std.specs.Prelude.{◌≡◌, ℕ, ◌+◌, ◌^◌, ◌<◌, ◌≤◌, Bool, ◌==◌, if◌then◌else◌, List, [], ◌∷◌, ◌++◌, map, length, replicate, count_by, filter, find, Option, Some, None, All, codes}
 use Rattle.std.specs.List.{flat_map}
 use Rattle.byteorder.specs.Endian.{little_bytes}
 use Rattle.zns_types.specs.declared.fields.GeometryFields.{GeometryFields}
@@ -11,7 +11,7 @@ use Rattle.zone_model.specs.declared.act.Act.{Act}
 use Rattle.zone_model.specs.Places.{Place, command_of}
 use Rattle.zone_model.specs.Notices.{changed}
 use Rattle.zone_model.specs.Answers.{and_then, answered}
-use Rattle.zone_model.specs.Reports.{changed_page, bytes_of_all}
+use Rattle.drive_rules.specs.Reports.{changed_page, bytes_of_all}
 use Rattle.zone_model.specs.Replies.{descriptors, reply_bytes}
 use Rattle.zone_model.specs.Entries.{posted}
 
@@ -80,7 +80,7 @@ record_bytes a = little_bytes 2 a.queue ++ (0 ∷ 0 ∷ []) ++ little_bytes 4 (l
 unfoldable pub spelling : Recorded → List ℕ
 spelling s = header_bytes s.geometry (length s.acts) ++ flat_map record_bytes s.acts
 
--- These bytes, and nothing behind them, are the session.
+-- These bytes, and no more, are the session.
 abbrev pub spells : Recorded → List ℕ → Type 0
 spells s bytes = bytes ≡ spelling s
 
@@ -110,6 +110,19 @@ merged acts (queue ∷ order) = next_then (next_of queue acts) (merged (rest_of 
 -- an order names each queue as often as it has acts
 abbrev pub IsOrder : List Act → List ℕ → Type 0
 IsOrder acts order = (queue : ℕ) → count_by (λ q. q == queue) order ≡ count_by (is_of queue) acts
+
+-- the acts of a queue
+abbrev pub acts_of : ℕ → List Act → List Act
+acts_of queue acts = filter (is_of queue) acts
+
+-- each act once, and those of each queue in their own order
+pub record IsMerge (acts mixed : List Act) : Type 0 where
+  pub count : length mixed ≡ length acts
+  pub queues : (queue : ℕ) → acts_of queue mixed ≡ acts_of queue acts
+
+-- Acts in the order of an order of them are all of these acts, each queue's in its own order.
+abbrev pub MergeKeepsOrder : Type 0
+MergeKeepsOrder = (acts : List Act) (order : List ℕ) → IsOrder acts order → IsMerge acts (merged acts order)
 
 abbrev pub merge : Recorded → List ℕ → List Act
 merge s order = merged s.acts order
@@ -143,3 +156,8 @@ result_bytes g order acts =
 
 abbrev pub result_of : Recorded → List ℕ → List ℕ
 result_of s order = result_bytes s.geometry order (merge s order)
+
+-- the bytes name an order of the session, and are its result in that order
+pub record IsResult (s : Recorded) (order bytes : List ℕ) : Type 0 where
+  pub each_once : IsOrder s.acts order
+  pub spelled : bytes ≡ result_of s order

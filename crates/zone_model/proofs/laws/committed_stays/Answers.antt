@@ -1,4 +1,4 @@
-use Rattle.zone_model.proofs.Committed.{committed_stays}
+use Rattle.zone_model.proofs.ZoneLaws.{committed_stays}
 use Rattle.zone_model.proofs.laws.committed_stays.Goals as goal
 
 pub returns : goal.returns

@@ -1,4 +1,4 @@
-use Rattle.zone_model.proofs.PointersMove.{pointer_moves}
+use Rattle.zone_model.proofs.ZoneLaws.{pointer_moves}
 use Rattle.zone_model.proofs.laws.pointer_moves.Goals as goal
 
 pub returns : goal.returns

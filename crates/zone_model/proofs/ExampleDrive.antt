@@ -1,19 +1,19 @@
 -- A small drive and the acts of the worked examples: 4 zones of 64 blocks, of which 48 can be written; at most 3 active
 -- and 2 opened; one random write area of 8 blocks, in granules of 4.
-use Rattle.std.proofs.Common.{ℕ, ◌-◌, ◌*◌, List, [], ◌∷◌, ◌++◌}
-use Rattle.std.specs.Prelude.{map, replicate}
+use Rattle.std.proofs.Common.{ℕ, ◌+◌, ◌-◌, ◌*◌, ◌/◌, List, [], ◌∷◌, ◌++◌, map, take, drop}
+use Rattle.std.specs.Prelude.{replicate}
 use Rattle.std.specs.List.{range_with_len}
 use Rattle.byteorder.specs.Endian.{little_bytes}
 use Rattle.zns_types.specs.declared.fields.GeometryFields.{GeometryFields}
 use Rattle.zns_types.specs.declared.state.State.{State}
 use Rattle.zns_types.specs.Statuses.{Status}
+use Rattle.cqe_codec.specs.declared.cqe.Cqe.{Cqe}
 use Rattle.zone_model.specs.declared.act.Act.{Act}
 use Rattle.zone_model.specs.Places.{Place}
 use Rattle.zone_model.specs.Zones.{state}
-use Rattle.zone_model.specs.Answers.{and_then}
-use Rattle.zone_model.specs.Replies.{reply_bytes}
+use Rattle.zone_model.specs.Answers.{status, answered, and_then}
 use Rattle.zone_model.specs.Entries.{posted}
-use Rattle.cqe_codec.specs.declared.cqe.Cqe.{Cqe}
+use Rattle.zone_model.specs.Replies.{reply_bytes}
 
 abbrev pub drive : GeometryFields
 drive = record { block_exp = 9; mdts = 0; zasl = 0; flags = 0; zones = 4; zone_size = 64; capacity = 48; active_limit = 3; open_limit = 2; windows = 1; granule = 4; window = 8; queues = 2; depth = 64 }
@@ -50,8 +50,8 @@ open_zone slba = send slba 0x003
 abbrev pub open_with_window : ℕ → Act
 open_with_window slba = send slba 0x203
 
-abbrev pub flush_to : ℕ → Act
-flush_to last = send last 0x011
+abbrev pub commit_to : ℕ → Act
+commit_to last = send last 0x011
 
 abbrev pub reset_all : Act
 reset_all = send 5 0x104
@@ -84,3 +84,61 @@ excursion cid slba kind = act_on 0 0xc0 cid slba 0 0 kind []
 -- reads 4,096 bytes of the changed zones and clears them
 abbrev pub read_changed : ℕ → Act
 read_changed cid = act_on 0 0x02 cid 0x03ff00bf 0 0 0 []
+
+-- one command moves at most 32 blocks, and an Append 16
+abbrev pub narrow : GeometryFields
+narrow = record drive { mdts = 2; zasl = 1 }
+
+-- no zone may have a random write area
+abbrev pub plain : GeometryFields
+plain = record drive { windows = 0; granule = 0; window = 0 }
+
+-- the same act, of another namespace
+abbrev pub of_namespace : ℕ → Act → Act
+of_namespace nsid a = record a { sqe = record { bytes = take 4 a.sqe.bytes ++ (little_bytes 4 nsid ++ drop 8 a.sqe.bytes) } }
+
+-- blocks that all hold 11h
+abbrev pub put : ℕ → ℕ → Act
+put slba blocks = write slba blocks (filled blocks 0x11)
+
+abbrev pub add : ℕ → ℕ → Act
+add zslba blocks = append zslba blocks (filled blocks 0x11)
+
+abbrev pub close_zone : ℕ → Act
+close_zone slba = send slba 0x001
+
+abbrev pub finish : ℕ → Act
+finish slba = send slba 0x002
+
+abbrev pub reset : ℕ → Act
+reset slba = send slba 0x004
+
+-- of all zones, by an action's code; the block named is past the namespace
+abbrev pub send_all : ℕ → Act
+send_all code = send 999 (0x100 + code)
+
+-- a report: its first block, its bytes, a filter, and 1 for a partial one
+abbrev pub report_from : ℕ → ℕ → ℕ → ℕ → Act
+report_from slba bytes filter partial = act_on 1 0x7a 1 slba 0 (bytes / 4 - 1) (filter * 256 + partial * 65536) []
+
+abbrev pub identify : ℕ → ℕ → Act
+identify cns csi = act_on 0 0x06 1 cns (csi * 16777216) 0 0 []
+
+-- so many dwords of a log page from an offset on
+abbrev pub read_log : ℕ → ℕ → ℕ → Act
+read_log page dwords offset = act_on 0 0x02 1 (page + (dwords - 1) * 65536) 0 offset 0 []
+
+-- the status of each act after the same history
+abbrev pub answers : GeometryFields → List Place → List Act → List Status
+answers g h acts = map (status g h) acts
+
+-- zones 0 and 1 were opened, and zone 2, which was written before, closed for the second
+abbrev pub crowded : GeometryFields → List Place
+crowded g = answered g (put 128 1 ∷ open_zone 0 ∷ open_zone 64 ∷ [])
+
+-- zone 0 is Read Only, zone 1 Full, zone 2 Implicitly and zone 3 Explicitly Opened
+abbrev pub mixed_acts : List Act
+mixed_acts = put 128 1 ∷ open_zone 192 ∷ excursion 1 0 4 ∷ finish 64 ∷ []
+
+abbrev pub mixed : List Place
+mixed = answered drive mixed_acts
