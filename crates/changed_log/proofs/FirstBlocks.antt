@@ -6,7 +6,7 @@ use Rattle.std.proofs.lemmas.Bool.{le-ltb, lt-ltb}
 use Rattle.byteorder.specs.Endian.{little_bytes}
 use Rattle.zns_types.specs.declared.fields.GeometryFields.{GeometryFields}
 use Rattle.zns_types.specs.Geometry.{first}
-use Rattle.zone_model.specs.Reports.{changed_page}
+use Rattle.drive_rules.specs.Reports.{changed_page}
 use Rattle.changed_log.specs.Logs.{first_blocks}
 
 -- the blocks of these zones are written from byte 8 on, and all other bytes are as they were
@@ -33,15 +33,15 @@ Listed-more g zones old new at z so_far room =
     let parts : new ≡ (head ++ blocks) ++ rest = so_far.bytes ∙ sym (append_assoc head blocks rest) in
     let front : take at new ≡ head ++ blocks = rw parts (take_at (head ++ blocks) rest at front_len) in
     let tail : drop at new ≡ rest = rw parts (drop_at (head ++ blocks) rest at front_len) in
-    let behind : drop (at + 8) new ≡ drop (at + 8) old = sym (drop-drop 8 at new) ∙ ap (λ (xs : List ℕ). drop 8 xs) tail ∙ drop-drop 8 at old in
+    let after : drop (at + 8) new ≡ drop (at + 8) old = sym (drop-drop 8 at new) ∙ ap (λ (xs : List ℕ). drop 8 xs) tail ∙ drop-drop 8 at old in
     record {
       place = omega (arith, length-append zones (z ∷ []), so_far.place);
-      bytes = rw (front, behind, first_blocks-push g zones z, append_assoc head blocks, append_assoc blocks block) refl;
+      bytes = rw (front, after, first_blocks-push g zones z, append_assoc head blocks, append_assoc blocks block) refl;
     }
 
 -- ---- the page
 
--- the first bytes of a number and zeros behind it
+-- the first bytes of a number and zeros after it
 head_of : (n len : ℕ) → 8 ≤ len → take 8 (little_bytes 2 n ++ replicate (len - 2) 0) ≡ little_bytes 2 n ++ replicate 6 0
 head_of n len room = ap (λ (xs : List ℕ). little_bytes 2 n ++ xs) (take-replicate 6 (len - 2) 0 (omega arith))
 

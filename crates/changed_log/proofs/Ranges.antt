@@ -85,9 +85,9 @@ filter-agree_from p q z a (suc n) lt other =
 with_zone-here : (z : ℕ) (ys : List ℕ) → with_zone z (z ∷ ys) ≡ z ∷ ys
 with_zone-here z ys = grind (arith, nat_tests)
 
--- where it begins with a lower one, the number goes behind that
-with_zone-behind : (z a : ℕ) (ys : List ℕ) → a < z → with_zone z (a ∷ ys) ≡ a ∷ with_zone z ys
-with_zone-behind z a ys lt = grind (arith, nat_tests)
+-- where it begins with a lower one, the number goes after that
+with_zone-after : (z a : ℕ) (ys : List ℕ) → a < z → with_zone z (a ∷ ys) ≡ a ∷ with_zone z ys
+with_zone-after z a ys lt = grind (arith, nat_tests)
 
 at_place : (p q : ℕ → Bool) (z n : ℕ) → q z ≡ true → ((y : ℕ) → (y ≡ z → ⊥) → q y ≡ p y) → filter q (range_with_len z (suc n)) ≡ with_zone z (filter p (range_with_len z (suc n)))
 at_place p q z n is other =
@@ -107,7 +107,7 @@ filter-with_zone p q z a (suc n) is other le lt = elim (cases_eq a z) [
       let e : q a ≡ p a = other a (λ same. omega arith) in
       let rest = filter-with_zone p q z (a + 1) n is other (omega arith) (omega arith) in
       elim (cases_Bool (p a)) [
-        | inl was ↦ rw (e, was, rest) (sym (with_zone-behind z a (filter p (range_with_len (a + 1) n)) below))
+        | inl was ↦ rw (e, was, rest) (sym (with_zone-after z a (filter p (range_with_len (a + 1) n)) below))
         | inr wasnt ↦ rw (e, wasnt) rest
       ]
 ]

@@ -1,7 +1,6 @@
 -- The marks of asynchronous events, and the requests that wait. (NVM Express Base Specification 2.0, 5.2, Asynchronous
 -- Event Request; Zoned Namespace Command Set Specification 1.1, 4.1.4, Zone Descriptor Changed Notices.)
-use Rattle.std.specs.Prelude.{◌≡◌, ℕ, ◌≤◌, Bool, true, false, not, ◌&&◌, nat_le, if◌then◌else◌, List, [], ◌∷◌, ◌++◌, length, Option, None}
-use Rattle.zone_model.specs.Notices.{first_of}
+use Rattle.std.specs.Prelude.{◌≡◌, ℕ, ◌≤◌, Bool, true, false, not, ◌&&◌, nat_le, if◌then◌else◌, List, [], ◌∷◌, ◌++◌, length, Option, Some, None}
 use Rattle.changed_log.specs.declared.waited.Waited.{Waited}
 use Rattle.changed_log.specs.declared.waited.Waited.TheVariants as waited
 
@@ -46,14 +45,19 @@ after_request cid m =
 abbrev pub is_told : Marks → Bool
 is_told m = m.enabled && not m.masked
 
+-- the first of the requests, which has waited longest
+abbrev pub oldest : List ℕ → Option ℕ
+oldest [] = None
+oldest (cid ∷ rest) = Some cid
+
 -- the request that it completes: the oldest that waits
 abbrev pub fired_by : Marks → Option ℕ
-fired_by m = if is_told m then first_of m.waiting else None
+fired_by m = if is_told m then oldest m.waiting else None
 
 -- the event goes to the oldest of the requests; where there is none, it is there to be told
 abbrev pub told : Marks → List ℕ → Marks
 told m [] = record m { pending = true }
-told m (oldest ∷ rest) = record m { masked = true; pending = false; waiting = rest }
+told m (cid ∷ rest) = record m { masked = true; pending = false; waiting = rest }
 
 abbrev pub after_excursion : Marks → Marks
 after_excursion m = if is_told m then told m m.waiting else m

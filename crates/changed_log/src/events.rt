@@ -56,7 +56,7 @@ impl Events {
     }
 
     /// Takes an Asynchronous Event Request by its command identifier. An event that is pending
-    /// completes it, and further events are then masked. Else it waits behind the others, unless
+    /// completes it, and further events are then masked. Else it waits after the others, unless
     /// four wait, when nothing changes.
     pub fn wait(&mut self, cid: u16) -> Waited
         ensures answer { result ≡ told_to self.old }

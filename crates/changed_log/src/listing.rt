@@ -38,7 +38,7 @@ fn put_block(out: &mut [u8], at: usize, block: u64)
 }
 
 /// Writes from byte 8 on the first block of each marked zone, rising, 8 bytes each, and leaves the
-/// bytes before and behind them.
+/// bytes before and after them.
 pub fn list_firsts(marks: &[bool], g: &Geometry, out: &mut [u8])
     requires few { length marks.now ≤ 4096 }
     requires zones { All (λ z. z < g.now.fields.zones) (marked_zones marks.now) }

@@ -1,7 +1,7 @@
 ghost use Rattle.std.specs.Prelude.{◌≡◌, ◌<◌, [], length};
 ghost use Rattle.std.specs.List.{All};
 ghost use Rattle.std.specs.List.Sorted.{IsStrictlyIncreasing};
-ghost use Rattle.zone_model.specs.Reports.{changed_page};
+ghost use Rattle.drive_rules.specs.Reports.{changed_page};
 ghost use Rattle.changed_log.specs.Logs.{with_zone};
 
 use crate::listing::{count, list_firsts, put_number};

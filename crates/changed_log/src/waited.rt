@@ -7,6 +7,6 @@ pub enum Waited {
     /// Four requests wait already: the status is Asynchronous Event Request Limit Exceeded.
     Limit,
 
-    /// The request waits, behind those that wait already, and gets no entry now.
+    /// The request waits, after those that wait already, and gets no entry now.
     Kept,
 }

@@ -1,7 +1,7 @@
 use Rattle.std.proofs.Common.{◌≡◌, ℕ, ◌+◌, ◌*◌, ◌-◌, List, ◌++◌, length, take, drop, ap, ◌∙◌, arith}
 use Rattle.std.specs.Prelude.{replicate}
 use Rattle.byteorder.specs.Endian.{little_bytes}
-use Rattle.zone_model.specs.Reports.{changed_page}
+use Rattle.drive_rules.specs.Reports.{changed_page}
 use Rattle.changed_log.specs.Logs.{marked_zones, first_blocks}
 use Rattle.changed_log.proofs.FirstBlocks.{page-listed, page-overflow}
 use Rattle.changed_log.proofs.log.ChangedLog.page.Goals as goal

@@ -1,26 +1,84 @@
 -- The marks follow the definitions over histories: what each call makes of the marks of a history are the marks of the
 -- history with the act that it serves.
 use Rattle.std.proofs.Common.{◌≡◌, ℕ, ◌<◌, ◌≤◌, Bool, true, false, not, cond, List, [], ◌∷◌, ◌++◌, length, Option, Some, None, is_some, refl, ap, ◌∙◌, inl, inr, arith, length-append}
-use Rattle.std.specs.Prelude.{◌&&◌, nat_le, drop, reverse, unwrap_or}
+use Rattle.std.specs.Prelude.{◌&&◌, ◌||◌, nat_le, drop, reverse, unwrap_or}
 use Rattle.std.proofs.lemmas.List.{drop-append-le, drop_all}
 use Rattle.std.proofs.lemmas.Bool.{cases_Bool, cases_lt}
 use Rattle.zns_types.specs.declared.fields.GeometryFields.{GeometryFields}
 use Rattle.zns_types.specs.Fields.{bit}
-use Rattle.zns_types.specs.Statuses.{is_success, success, event_limit_exceeded}
+use Rattle.zns_types.specs.Statuses.{Status, is_success, success, event_limit_exceeded}
 use Rattle.sqe_codec.specs.declared.cmd.Cmd.{Cmd}
 use Rattle.sqe_codec.specs.declared.cmd.Cmd.TheVariants as cmd
 use Rattle.sqe_codec.specs.Commands.{cid_of}
-use Rattle.zone_state.specs.Shown.{one}
+use Rattle.drive_rules.specs.Shown.{one}
 use Rattle.zone_model.specs.declared.act.Act.{Act}
 use Rattle.zone_model.specs.Places.{Place, command_of, is_excursion, reads_and_clears, is_event_request, had_excursion, cleared, waited}
 use Rattle.zone_model.specs.Notices.{enabled, enabled_by, masked, noticed, pending, requests, answered_requests, waiting, fires_by, first_of}
 use Rattle.zone_model.specs.Answers.{status, fires, answer, and_then, answered_back, answered}
 use Rattle.zone_model.proofs.Refused.{refused_as_before}
+use Rattle.changed_log.specs.declared.waited.Waited.{Waited}
 use Rattle.changed_log.specs.declared.waited.Waited.TheVariants as waited_as
-use Rattle.changed_log.specs.Marks.{at_start, with_enabled, told_to, after_request, fired_by, after_excursion, after_read}
-use Rattle.changed_log.specs.Histories.{marks_of, HasAsked, request_status, own_event, changes_marks}
-use Rattle.changed_log.proofs.Done.{IsDone, done-cleared, done-excursion, done-fired, done-waited, done-enabled, masked-kept, masked-read, noticed-kept, pending-kept, pending-read, answered-more, waiting-kept}
-use Rattle.changed_log.proofs.Stepping.{after_excursion-is}
+use Rattle.changed_log.specs.Marks.{Marks, at_start, oldest, with_enabled, told_to, after_request, fired_by, after_excursion, after_read}
+use Rattle.drive_book.specs.Books.{marks_of}
+use Rattle.drive_book.proofs.Done.{IsDone, done-cleared, done-excursion, done-fired, done-waited, done-enabled, masked-kept, masked-read, noticed-kept, pending-kept, pending-read, answered-more, waiting-kept}
+
+-- ---- words
+
+-- No more requests were answered by excursions than waited for one. It holds of every history of answered acts.
+abbrev pub HasAsked : List Place → Type 0
+HasAsked h = answered_requests h ≤ length (requests h)
+
+-- the status of an event request
+abbrev pub request_status : Waited → Status
+request_status waited_as.Limit = event_limit_exceeded
+request_status _ = success
+
+-- the number of the request that is answered at once: its own, or none
+abbrev pub own_event : ℕ → Waited → Option ℕ
+own_event cid waited_as.Fired = Some cid
+own_event cid _ = None
+
+-- a command that may change the marks
+abbrev pub changes_marks : Cmd → Bool
+changes_marks (cmd.GetLog nsid page bytes offset retain) = not retain
+changes_marks (cmd.SetFeature feature value) = true
+changes_marks cmd.Event = true
+changes_marks (cmd.Excursion nsid slba kind) = true
+changes_marks _ = false
+
+-- what a command with this number that succeeds makes of the marks
+abbrev pub marks_by : ℕ → Cmd → Marks → Marks
+marks_by cid (cmd.GetLog nsid page bytes offset retain) m = cond retain m (after_read m)
+marks_by cid (cmd.SetFeature feature value) m = with_enabled (bit 27 value) m
+marks_by cid cmd.Event m = after_request cid m
+marks_by cid (cmd.Excursion nsid slba kind) m = after_excursion m
+marks_by cid _ m = m
+
+-- ---- an excursion, over plain marks
+
+-- marks of a history: whether an excursion left an event, and whether one was told
+abbrev pub plain : Bool → Bool → Bool → List ℕ → Marks
+plain enabled masked noticed waiting = record { enabled = enabled; masked = masked; pending = not masked && noticed; waiting = waiting }
+
+-- after an excursion, by the request that it answered
+abbrev pub excursed : Bool → Bool → Bool → List ℕ → Option ℕ → Marks
+excursed enabled masked noticed waiting fired = record {
+  enabled = enabled;
+  masked = is_some fired || masked;
+  pending = not (is_some fired || masked) && (enabled || noticed);
+  waiting = drop (one (is_some fired)) waiting;
+}
+
+pub after_excursion-is : (e k n : Bool) (w : List ℕ) → excursed e k n w (cond (e && not k) (first_of w) None) ≡ after_excursion (plain e k n w)
+after_excursion-is true true n w = refl
+after_excursion-is true false n [] = refl
+after_excursion-is true false n (x ∷ xs) = refl
+after_excursion-is false true n w = refl
+after_excursion-is false false n w = refl
+
+first_of-oldest : (xs : List ℕ) → first_of xs ≡ oldest xs
+first_of-oldest [] = refl
+first_of-oldest (x ∷ xs) = refl
 
 -- ---- requests that were answered
 
@@ -73,7 +131,8 @@ has_asked g acts = has_asked-back g (reverse acts)
 -- ---- an excursion that succeeds
 
 pub excursion-fires : (g : GeometryFields) (h : List Place) (a : Act) (nsid slba kind : ℕ) → IsDone g h a (cmd.Excursion nsid slba kind) → fires g h a ≡ fired_by (marks_of h)
-excursion-fires g h a nsid slba kind d = done-fired g h a (cmd.Excursion nsid slba kind) d
+excursion-fires g h a nsid slba kind d =
+    done-fired g h a (cmd.Excursion nsid slba kind) d ∙ ap (λ (o : Option ℕ). cond (enabled h && not (masked h)) o None) (first_of-oldest (waiting h))
 
 pub excursion-marks : (g : GeometryFields) (h : List Place) (a : Act) (nsid slba kind : ℕ) → IsDone g h a (cmd.Excursion nsid slba kind) → marks_of (and_then g h a) ≡ after_excursion (marks_of h)
 unfolding answer pending
@@ -158,7 +217,7 @@ pub request-status : (g : GeometryFields) (h : List Place) (a : Act) → command
 unfolding status
 request-status g h a asks = rw asks (status_by (pending h) (nat_le 4 (length (waiting h))))
 
--- it waits behind the others
+-- it waits after the others
 waiting-asked : (p : Place) (h : List Place) → waited p ≡ true → had_excursion p ≡ false → HasAsked h → waiting (p ∷ h) ≡ waiting h ++ cid_of p.act.sqe.bytes ∷ []
 unfolding waiting
 waiting-asked p h waits calm asked =
@@ -225,3 +284,22 @@ request-fires g h a asks = rw (request-status g h a asks, asks) (fires_as (pendi
 pub no_acts-marks : at_start ≡ marks_of []
 unfolding enabled masked pending waiting
 no_acts-marks = refl
+
+-- ---- any act
+
+-- what a command that succeeds makes of the marks
+done-marks : (g : GeometryFields) (h : List Place) (a : Act) (c : Cmd) → IsDone g h a c → HasAsked h → marks_of (and_then g h a) ≡ marks_by (cid_of a.sqe.bytes) c (marks_of h)
+done-marks g h a (cmd.GetLog nsid page bytes offset true) d asked = other-marks g h a (rw d.command refl)
+done-marks g h a (cmd.GetLog nsid page bytes offset false) d asked = read-marks g h a nsid page bytes offset d
+done-marks g h a (cmd.SetFeature feature value) d asked = feature-marks g h a feature value d
+done-marks g h a cmd.Event d asked = request-marks g h a d.command asked
+done-marks g h a (cmd.Excursion nsid slba kind) d asked = excursion-marks g h a nsid slba kind d
+done-marks g h a _ d asked = other-marks g h a (rw d.command refl)
+
+-- The marks of a history with one more act.
+pub marks-step : (g : GeometryFields) (h : List Place) (a : Act) → HasAsked h
+    → marks_of (and_then g h a) ≡ cond (is_success (status g h a)) (marks_by (cid_of a.sqe.bytes) (command_of a) (marks_of h)) (marks_of h)
+marks-step g h a asked = elim (cases_Bool (is_success (status g h a))) [
+  | inl done ↦ rw done (done-marks g h a (command_of a) (record { success = done; command = refl }) asked)
+  | inr refused ↦ rw refused (refused-marks g h a refused)
+]

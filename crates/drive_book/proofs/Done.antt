@@ -6,7 +6,7 @@ use Rattle.zns_types.specs.declared.fields.GeometryFields.{GeometryFields}
 use Rattle.zns_types.specs.Statuses.{is_success}
 use Rattle.sqe_codec.specs.declared.cmd.Cmd.{Cmd}
 use Rattle.sqe_codec.specs.Commands.{cid_of}
-use Rattle.zone_state.specs.Shown.{one}
+use Rattle.drive_rules.specs.Shown.{one}
 use Rattle.zone_model.specs.declared.act.Act.{Act}
 use Rattle.zone_model.specs.Places.{Place, command_of, is_excursion, reads_and_clears, is_event_request, changes, changed_zone, had_excursion, cleared, waited}
 use Rattle.zone_model.specs.Notices.{enabled, enabled_by, masked, noticed, pending, requests, answered_requests, waiting, fires_by}

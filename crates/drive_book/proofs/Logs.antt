@@ -1,25 +1,30 @@
--- The log follows the definitions over histories.
-use Rattle.std.proofs.Common.{◌≡◌, ℕ, ◌<◌, Bool, true, false, eqb, List, [], ◌∷◌, refl, ◌∙◌, inl, inr, arith}
+-- The log of changed zones of a history with one more act.
+use Rattle.std.proofs.Common.{◌≡◌, ℕ, ◌<◌, Bool, true, false, cond, eqb, List, [], ◌∷◌, refl, ◌∙◌, inl, inr, arith}
 use Rattle.std.specs.Prelude.{◌||◌}
 use Rattle.std.specs.List.{All, list_any}
 use Rattle.std.proofs.lemmas.List.Elements.{All-filter, All-from_get_or, filter_agree}
 use Rattle.std.proofs.lemmas.List.FromFn.{length-range_with_len, get_or-range_with_len}
 use Rattle.std.proofs.lemmas.Bool.{cases_Bool}
+use Rattle.std.proofs.lemmas.Nat.{div_below}
 use Rattle.std.proofs.lemmas.Bool.Decides.{nat_tests}
 use Rattle.zns_types.specs.declared.fields.GeometryFields.{GeometryFields}
-use Rattle.zns_types.specs.Geometry.{zone_of}
+use Rattle.zns_types.specs.Geometry.{IsGeometry, zone_of}
 use Rattle.zns_types.specs.Statuses.{is_success}
 use Rattle.sqe_codec.specs.declared.cmd.Cmd.{Cmd}
 use Rattle.sqe_codec.specs.declared.cmd.Cmd.TheVariants as cmd
+use Rattle.drive_rules.specs.declared.deed.Deed.TheVariants as deed
+use Rattle.drive_rules.specs.declared.aim.Aim.{Aim}
 use Rattle.zone_model.specs.declared.act.Act.{Act}
 use Rattle.zone_model.specs.Places.{Place, command_of, reads_and_clears, is_excursion, changes, changed_zone, cleared, since_cleared}
 use Rattle.zone_model.specs.Zones.{zones}
 use Rattle.zone_model.specs.Notices.{changed}
 use Rattle.zone_model.specs.Answers.{status, answer, and_then}
 use Rattle.zone_model.proofs.Refused.{refused_as_before}
+use Rattle.zone_model.proofs.Passing.{aim-passes}
+use Rattle.zone_model.proofs.Fronts.{excursion_front-within}
 use Rattle.changed_log.specs.Logs.{with_zone}
 use Rattle.changed_log.proofs.Ranges.{filter-with_zone, filter-none}
-use Rattle.changed_log.proofs.Done.{IsDone, done-cleared, done-changed_zone}
+use Rattle.drive_book.proofs.Done.{IsDone, done-cleared, done-changed_zone}
 
 -- a zone has changed since the log was last read and cleared
 abbrev pub has_changed : GeometryFields → List Place → ℕ → Bool
@@ -90,3 +95,32 @@ other-changed g h a calm = elim (cases_Bool (is_success (status g h a))) [
 pub no_acts-changed : (g : GeometryFields) → changed g [] ≡ []
 unfolding changed
 no_acts-changed g = filter-none (has_changed g []) 0 g.zones (λ z. refl)
+
+-- ---- any act
+
+-- what a command that succeeds makes of the log
+abbrev pub log_by : GeometryFields → Cmd → List ℕ → List ℕ
+log_by g (cmd.GetLog nsid page bytes offset retain) zones = cond retain zones []
+log_by g (cmd.Excursion nsid slba kind) zones = with_zone (zone_of g slba) zones
+log_by g _ zones = zones
+
+-- an excursion that succeeds goes to a zone of the drive
+pub excursion-zone : (g : GeometryFields) (h : List Place) (a : Act) (nsid slba kind : ℕ) → IsGeometry g → IsDone g h a (cmd.Excursion nsid slba kind) → zone_of g slba < g.zones
+excursion-zone g h a nsid slba kind valid d =
+    let aim : Aim = record { zone = zone_of g slba; deed = deed.Excursion kind } in
+    let front = (aim-passes g h a aim d.success (rw d.command refl)).front in
+    div_below slba g.zone_size g.zones valid.zones.zone_size (excursion_front-within g nsid slba kind (rw d.command at front))
+
+done-changed : (g : GeometryFields) (h : List Place) (a : Act) (c : Cmd) → IsGeometry g → IsDone g h a c → changed g (and_then g h a) ≡ log_by g c (changed g h)
+done-changed g h a (cmd.GetLog nsid page bytes offset true) valid d = other-changed g h a (rw d.command refl)
+done-changed g h a (cmd.GetLog nsid page bytes offset false) valid d = read-changed g h a nsid page bytes offset d
+done-changed g h a (cmd.Excursion nsid slba kind) valid d = excursion-changed g h a nsid slba kind d (excursion-zone g h a nsid slba kind valid d)
+done-changed g h a _ valid d = other-changed g h a (rw d.command refl)
+
+-- The log of a history with one more act.
+pub changed-step : (g : GeometryFields) (h : List Place) (a : Act) → IsGeometry g
+    → changed g (and_then g h a) ≡ cond (is_success (status g h a)) (log_by g (command_of a) (changed g h)) (changed g h)
+changed-step g h a valid = elim (cases_Bool (is_success (status g h a))) [
+  | inl done ↦ rw done (done-changed g h a (command_of a) valid (record { success = done; command = refl }))
+  | inr refused ↦ rw refused (refused_as_before g h a refused).changed
+]
