@@ -1,16 +1,15 @@
--- A report is its head and the descriptors behind it.
-use Rattle.std.proofs.Common.{◌≡◌, ℕ, ◌+◌, ◌*◌, ◌-◌, ◌/◌, ◌≤◌, Bool, cond, List, [], ◌∷◌, ◌++◌, length, take, drop, map, min, refl, sym, ap, ◌∙◌, arith, inl, inr, Option, None, Some}
-use Rattle.std.specs.Prelude.{nat_lt, replicate}
+-- A report is its head and the descriptors after it.
+use Rattle.std.proofs.Common.{◌≡◌, ℕ, ◌+◌, ◌*◌, ◌-◌, ◌/◌, ◌≤◌, Bool, cond, List, [], ◌∷◌, ◌++◌, length, take, drop, map, min, refl, sym, ap, ◌∙◌, arith, inl, inr}
+use Rattle.std.specs.Prelude.{replicate}
 use Rattle.std.specs.List.{count_by}
 use Rattle.byteorder.specs.Endian.{little_bytes}
 use borrow.Rule.Slice.PartMut.{put_mid}
-use Rattle.std.proofs.lemmas.Bool.{cases_lt, cond_above}
+use Rattle.std.proofs.lemmas.Bool.{cases_lt}
 use Rattle.std.proofs.lemmas.List.{append_assoc, append-nil, length-append, length-take, length-take-le, length-drop, length-replicate, replicate-append-replicate, take-append-le, take_at, drop_at, drop_all}
 use Rattle.zns_types.specs.declared.fields.GeometryFields.{GeometryFields}
-use Rattle.zns_types.specs.Statuses.{Status}
 use Rattle.zone_descriptor.specs.declared.descriptor.Descriptor.{Descriptor}
 use Rattle.zone_cell.specs.Cells.{Cell, descriptor_of}
-use Rattle.zone_model.specs.Reports.{passes, bytes_of_all, first_bytes, report}
+use Rattle.drive_rules.specs.Reports.{passes, bytes_of_all, first_bytes, report}
 use Rattle.mgmt_receive.specs.Receiving.{matching, given_in, Given}
 use Rattle.mgmt_receive.proofs.Given.{length-bytes, matching_count}
 
@@ -23,7 +22,7 @@ short : (len number : ℕ) (ds : List Descriptor) (back : List ℕ) → len ≤ 
 short len number [] back low none is = rw is (append-nil _ ∙ sym (ap (λ (xs : List ℕ). take len (xs ++ replicate len 0)) (append-nil (head_of number)) ∙ take-append-le len (head_of number) (replicate len 0) low))
 short len number (d ∷ ds) back low none is = absurd (omega (arith, none))
 
--- behind a text stand as many zeros as are left
+-- after a text stand as many zeros as are left
 padded : (len : ℕ) (xs : List ℕ) → length xs ≤ len → first_bytes len xs ≡ xs ++ replicate (len - length xs) 0
 padded len xs fits =
     let n = len - length xs in
@@ -37,9 +36,9 @@ long len number given ds back high n fits is =
     let size : length text ≡ 64 + 64 * given = length-append (head_of number) (bytes_of_all ds) ∙ omega (arith, length-bytes ds) in
     rw is (sym (append_assoc (head_of number) (bytes_of_all ds) _) ∙ sym (padded len text (omega (arith, size)) ∙ ap (λ (k : ℕ). text ++ replicate k 0) (omega (arith, size))))
 
--- behind the head stands what was put there
-put_behind : (len h : ℕ) (out back : List ℕ) → length out ≡ len → h ≤ len → drop h (put_mid h (len - h) out back) ≡ back
-put_behind len h out back size low =
+-- after the head stands what was put there
+put_after : (len h : ℕ) (out back : List ℕ) → length out ≡ len → h ≤ len → drop h (put_mid h (len - h) out back) ≡ back
+put_after len h out back size low =
     drop_at (take h out) (back ++ drop (len - h) (drop h out)) h (length-take-le h out (omega (arith, size)))
     ∙ ap (λ (xs : List ℕ). back ++ xs) (drop_all (len - h) (drop h out) (omega (arith, size, length-drop h out)))
     ∙ append-nil back
@@ -74,7 +73,7 @@ built g kind partial cells len h number given out front back size h-is front-is 
     let same : len - h ≡ len - 64 = omega (arith, h-is) in
     let now : Given g kind cells (len - 64) given back = rw same at was in
     let n = number_of partial number given _ _ _ number-is now.count (sym (matching_count g kind cells)) in
-    rw (put_behind len h out back size (omega (arith, h-is)), front-is)
+    rw (put_after len h out back size (omega (arith, h-is)), front-is)
     (joined g kind cells len h number given back h-is now ∙ ap (λ (k : ℕ). first_bytes len (head_of k ++ bytes_of_all (given_in g kind cells (len - 64)))) n)
 
 -- what stands before a place keeps its length
@@ -82,12 +81,3 @@ pub kept_len : (h k : ℕ) (out back : List ℕ) → h ≤ length out → length
 kept_len h k out back low =
     let front = length-take-le h out low in
     length-take-le h (put_mid h k out back) (omega (arith, front, length-append (take h out) (back ++ drop k (drop h out))))
-
--- what may be moved has room
-pub has_room : (greatest bytes room : ℕ) → bytes ≤ greatest → cond (nat_lt greatest bytes) 0 bytes ≤ room → bytes ≤ room
-has_room greatest bytes room low fits = rw (← cond_above greatest bytes 0 bytes bytes low refl) at fits
-
--- a table has one answer
-pub one_answer : (o : Option Status) (s : Status) → o ≡ None → o ≡ Some s → ⊥
-one_answer None s e e2 = cc e2
-one_answer (Some t) s e e2 = cc e

@@ -10,7 +10,7 @@ use Rattle.zns_types.specs.declared.fields.GeometryFields.{GeometryFields}
 use Rattle.zone_descriptor.specs.declared.descriptor.Descriptor.{Descriptor}
 use Rattle.zone_descriptor.specs.Descriptors.{descriptor_bytes}
 use Rattle.zone_cell.specs.Cells.{Cell, descriptor_of}
-use Rattle.zone_model.specs.Reports.{passes, bytes_of_all}
+use Rattle.drive_rules.specs.Reports.{passes, bytes_of_all}
 use Rattle.mgmt_receive.specs.Receiving.{matching, given_in, Given}
 
 pub length-bytes : (ds : List Descriptor) → length (bytes_of_all ds) ≡ 64 * length ds

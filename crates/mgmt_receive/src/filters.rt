@@ -1,6 +1,6 @@
 ghost use Rattle.std.specs.Prelude.{◌≡◌};
 ghost use Rattle.std.specs.List.{count_by};
-ghost use Rattle.zone_model.specs.Reports.{passes};
+ghost use Rattle.drive_rules.specs.Reports.{passes};
 
 use zns_types::State;
 use zone_cell::ZoneCell;
@@ -11,13 +11,13 @@ pub fn passes(filter: u8, state: State) -> bool
 {
     match filter {
         0 => true,
-        1 => state == State::Empty,
-        2 => state == State::ImplicitlyOpened,
+        1 => state.is_empty(),
+        2 => state.is_implicitly_opened(),
         3 => state == State::ExplicitlyOpened,
-        4 => state == State::Closed,
-        5 => state == State::Full,
-        6 => state == State::ReadOnly,
-        _ => state == State::Offline,
+        4 => state.is_closed(),
+        5 => state.is_full(),
+        6 => state.is_read_only(),
+        _ => state.is_offline(),
     }
 }
 

@@ -1,7 +1,6 @@
 //! Zone Management Receive: the report of zones.
 #![tactic(auto)]
 
-mod checks;
 mod descriptors;
 mod filters;
 mod head;

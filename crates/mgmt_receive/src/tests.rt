@@ -2,11 +2,10 @@ ghost use Rattle.std.specs.Prelude.{◌≡◌, ◌≤◌, ◌+◌, ◌<◌, IfOk
 ghost use Rattle.zone_cell.specs.Cells.{IsOf};
 
 use super::*;
-use sqe_codec::Cmd;
 use std::alloc::Global;
 use std::test::Fail;
 use zns_io::NoMemory;
-use zns_types::{Code, Geometry, GeometryFields};
+use zns_types::{Geometry, GeometryFields};
 use zone_cell::ZoneCell;
 use zone_state::{Action, go};
 
@@ -29,10 +28,8 @@ const SMALL: GeometryFields = GeometryFields {
 
 // A report of all zones of 320 bytes.
 const ALL: Asked = Asked {
-    nsid: 1,
     slba: 0,
     bytes: 320,
-    action: 0,
     filter: 0,
     partial: false,
 };
@@ -40,16 +37,11 @@ const ALL: Asked = Asked {
 // What the room for a report held before.
 const KEPT: u8 = 0xee;
 
-// Not as a test expects.
-const WRONG: Code = Code::INVALID_OPCODE;
-
-// The fields of a Receive.
+// What a Receive asks for.
 #[derive(Clone, Copy, Debug)]
 struct Asked {
-    nsid: u32,
     slba: u64,
     bytes: u64,
-    action: u8,
     filter: u8,
     partial: bool,
 }
@@ -101,25 +93,24 @@ fn zones_after(
     Ok(cells)
 }
 
-// The status of a Receive and the room after it.
-fn receive(cells: &[ZoneCell], g: &Geometry, asked: Asked) -> (Code, [u8; 320])
+// The room after a Receive, where it is in the namespace and has room.
+fn receive(cells: &[ZoneCell], g: &Geometry, asked: Asked) -> [u8; 320]
     requires all { length cells.now ≡ g.now.fields.zones }
     requires of { All (IsOf g.now.fields) cells.now }
 {
     let mut out = [KEPT; 320];
-    if asked.bytes > 320 && asked.bytes <= g.greatest_transfer() {
-        return (WRONG, out);
+    if asked.bytes <= 320 && asked.slba < g.blocks() {
+        report(
+            cells,
+            g,
+            asked.slba,
+            asked.bytes,
+            asked.filter,
+            asked.partial,
+            &mut out,
+        );
     }
-    let cmd = Cmd::Receive {
-        nsid: asked.nsid,
-        slba: asked.slba,
-        bytes: asked.bytes,
-        action: asked.action,
-        filter: asked.filter,
-        partial: asked.partial,
-    };
-    let code = report(cells, g, &cmd, &mut out);
-    (code, out)
+    out
 }
 
 // Writes the descriptor of a zone with no attributes: its state's byte, its first block, and its
@@ -139,7 +130,7 @@ fn at(block: u8) -> [u8; 8] {
     [block, 0, 0, 0, 0, 0, 0, 0]
 }
 
-// So many zeros behind a number of zones, and the rest as before.
+// So many zeros after a number of zones, and the rest as before.
 fn empty_report(bytes: usize, number: u8) -> [u8; 320]
     requires { bytes ≤ 320 }
 {
@@ -165,11 +156,7 @@ fn reports_begin_at_the_zone_of_a_block(rt: HostRuntime) -> Result<(), Fail> {
         let mut expected = empty_report(192, number);
         show(&mut expected, 64, 0x10, 64, at(64));
         show(&mut expected, 128, 0x10, 128, at(128));
-        assert_eq!(rt;
-            receive(&cells, &g, asked),
-            (Code::SUCCESS, expected),
-            "{asked:?}"
-        );
+        assert_eq!(rt; receive(&cells, &g, asked), expected, "{asked:?}");
     }
     Ok(())
 }
@@ -192,11 +179,7 @@ fn reports_are_cut_to_their_length(rt: HostRuntime) -> Result<(), Fail> {
             ..ALL
         };
         let expected = empty_report(bytes as usize, number);
-        assert_eq!(rt;
-            receive(&cells, &g, asked),
-            (Code::SUCCESS, expected),
-            "{asked:?}"
-        );
+        assert_eq!(rt; receive(&cells, &g, asked), expected, "{asked:?}");
     }
     Ok(())
 }
@@ -208,7 +191,7 @@ fn found(cells: &[ZoneCell], g: &Geometry) -> [u8; 8]
 {
     let mut found = [0; 8];
     for filter in 0..8 {
-        let (_, out) = receive(
+        let out = receive(
             cells,
             g,
             Asked {
@@ -258,11 +241,7 @@ fn reports_leave_out_other_zones(rt: HostRuntime) -> Result<(), Fail> {
         let mut expected = empty_report(320, number);
         show(&mut expected, 64, 0x10, 64, at(64));
         show(&mut expected, 128, 0x10, 192, at(192));
-        assert_eq!(rt;
-            receive(&cells, &g, asked),
-            (Code::SUCCESS, expected),
-            "{asked:?}"
-        );
+        assert_eq!(rt; receive(&cells, &g, asked), expected, "{asked:?}");
     }
     Ok(())
 }
@@ -278,51 +257,6 @@ fn full_zones_show_no_pointer(rt: HostRuntime) -> Result<(), Fail> {
     };
     let mut expected = empty_report(320, 1);
     show(&mut expected, 64, 0xe0, 192, [0xff; 8]);
-    assert_eq!(rt; receive(&cells, &g, asked), (Code::SUCCESS, expected));
-    Ok(())
-}
-
-#[test]
-fn refused_receives_keep_the_room(rt: HostRuntime) -> Result<(), Fail> {
-    let g = Geometry::new(SMALL)?;
-    let cells = zones_after(rt.alloc(), &g, Action::Reset, Action::Reset)?;
-    let field = Code { sct: 0, sc: 0x02 };
-    let range = Code { sct: 0, sc: 0x80 };
-    let space = Code { sct: 0, sc: 0x0b };
-    for (asked, code) in [
-        (Asked { filter: 8, ..ALL }, field),
-        (Asked { action: 1, ..ALL }, field),
-        (Asked { slba: 256, ..ALL }, range),
-        (Asked { nsid: 2, ..ALL }, space),
-        (
-            Asked {
-                bytes: 1 << 34,
-                ..ALL
-            },
-            field,
-        ),
-        (
-            Asked {
-                filter: 8,
-                slba: 256,
-                ..ALL
-            },
-            field,
-        ),
-        (
-            Asked {
-                nsid: 2,
-                action: 1,
-                ..ALL
-            },
-            space,
-        ),
-    ] {
-        assert_eq!(rt;
-            receive(&cells, &g, asked),
-            (code, [KEPT; 320]),
-            "{asked:?}"
-        );
-    }
+    assert_eq!(rt; receive(&cells, &g, asked), expected);
     Ok(())
 }

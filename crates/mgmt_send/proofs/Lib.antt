@@ -1,1 +1,5 @@
-pub mod Rooms
+pub mod Counting
+pub mod Less
+pub mod Underway
+pub mod Outcomes
+pub mod Lent

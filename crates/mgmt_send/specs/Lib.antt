@@ -1,2 +1,2 @@
-pub mod Sending
-pub mod Sends
+pub mod Sweeping
+pub mod Acting

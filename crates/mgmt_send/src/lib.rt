@@ -1,9 +1,12 @@
-//! Zone Management Send: what it does to the zones, and what refuses it.
+//! Zone Management Send, to one zone and to all.
 #![tactic(auto)]
 
-mod checks;
-mod front;
-mod one;
-mod sending;
+mod acting;
+mod sweeping;
+mod taking;
 
-pub use sending::act_on_zone;
+pub use acting::{act, excurse, needs_all};
+pub use sweeping::sweep;
+
+#[cfg(test)]
+mod tests;

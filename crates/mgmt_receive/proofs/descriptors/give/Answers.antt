@@ -1,5 +1,5 @@
 use Rattle.std.proofs.Common.{◌≡◌, ◌∙◌, ap, arith, sym, true}
-use Rattle.zone_model.specs.Reports.{passes}
+use Rattle.drive_rules.specs.Reports.{passes}
 use Rattle.zone_descriptor.specs.Descriptors.{descriptor_bytes}
 use Rattle.mgmt_receive.proofs.Given.{gave}
 use Rattle.mgmt_receive.proofs.descriptors.give.Goals as goal

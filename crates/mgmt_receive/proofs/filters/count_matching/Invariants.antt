@@ -1,6 +1,6 @@
 use Rattle.std.proofs.Common.{◌≡◌, ◌≤◌, take}
 use Rattle.std.specs.List.{count_by}
-use Rattle.zone_model.specs.Reports.{passes}
+use Rattle.drive_rules.specs.Reports.{passes}
 use Rattle.mgmt_receive.proofs.filters.count_matching.Given as goal
 
 abbrev pub invariant-loop-i : goal.invariant-loop-i

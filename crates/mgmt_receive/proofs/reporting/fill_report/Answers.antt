@@ -2,7 +2,7 @@ use Rattle.std.proofs.Common.{◌≡◌, ◌-◌, ◌≤◌, ℕ, length, take, 
 use Rattle.std.specs.List.{count_by}
 use borrow.Rule.Slice.PartMut.{put_mid}
 use Rattle.std.proofs.lemmas.List.{length-take-le, length-drop}
-use Rattle.zone_model.specs.Reports.{passes}
+use Rattle.drive_rules.specs.Reports.{passes}
 use Rattle.zone_cell.specs.Cells.{Cell}
 use Rattle.mgmt_receive.specs.Receiving.{Given}
 use Rattle.mgmt_receive.proofs.Built.{head_of, built, kept_len}
@@ -19,8 +19,8 @@ returns c =
       | else-partial w ↦ rw w.if-partial.false (w.number-is ∙ w.count_matching-number.ensures)
     ] in
     let low : h ≤ length out = omega (arith, c.min-head.ensures) in
-    let behind : length (take (length out - h) (drop h out)) ≡ length out - h = length-take-le (length out - h) (drop h out) (omega (arith, length-drop h out)) in
-    let was : Given g c.args.filter c.args.cells.now (length out - h) c.write_descriptors-given.result c.write_descriptors-given.new.out = rw behind at c.write_descriptors-given.ensures in
+    let room : length (take (length out - h) (drop h out)) ≡ length out - h = length-take-le (length out - h) (drop h out) (omega (arith, length-drop h out)) in
+    let was : Given g c.args.filter c.args.cells.now (length out - h) c.write_descriptors-given.result c.write_descriptors-given.new.out = rw room at c.write_descriptors-given.ensures in
     let front : c.write_head.new.out ≡ take (length (take h (put_mid h (length out - h) out c.write_descriptors-given.new.out))) (head_of c.if-partial.number) = c.write_head.ensures in
     let at : length (take h (put_mid h (length out - h) out c.write_descriptors-given.new.out)) ≡ h = kept_len h (length out - h) out c.write_descriptors-given.new.out low in
     built g c.args.filter c.args.partial c.args.cells.now (length out) h c.if-partial.number c.write_descriptors-given.result out c.write_head.new.out c.write_descriptors-given.new.out refl c.min-head.ensures
