@@ -1,6 +1,7 @@
 pub mod Drives
-pub mod Standing
-pub mod Serving
+pub mod Parts
+pub mod Reaching
 pub mod Reading
-pub mod Following
-pub mod Appending
+pub mod Applying
+pub mod Served
+pub mod Telling

@@ -1,43 +1,50 @@
--- What a Read of the cells of all zones gives.
-use Rattle.std.specs.Prelude.{◌≡◌, ℕ, ◌*◌, ◌≤◌, List, ◌++◌, drop, slice_index_or, Some, None}
-use Rattle.std.specs.List.{flat_map, range_with_len}
+-- What a Read of lent cells gives.
+use Rattle.std.specs.Prelude.{◌≡◌, ℕ, ◌+◌, ◌-◌, ◌*◌, ◌<◌, ◌≤◌, Bool, true, false, List, ◌++◌, length, drop}
+use Rattle.std.specs.List.{flat_map, list_any, range_with_len}
 use Rattle.zns_types.specs.declared.fields.GeometryFields.{GeometryFields}
 use Rattle.zns_types.specs.declared.state.State.{State}
-use Rattle.zns_types.specs.Geometry.{block_len, zone_of, offset_of, greatest_transfer}
-use Rattle.zns_types.specs.Rows.{first_holding}
-use Rattle.zns_types.specs.Statuses.{Status, success}
-use Rattle.zone_state.specs.Blocks.{seen_block}
+use Rattle.zns_types.specs.States.{is_offline}
+use Rattle.zns_types.specs.Geometry.{block_len, zone_of, offset_of}
+use Rattle.zns_types.specs.Statuses.{zone_offline}
+use Rattle.drive_rules.specs.Tables.{zones_between, last_zone}
+use Rattle.drive_book.specs.declared.outcome.Outcome.{Outcome}
+use Rattle.drive_book.specs.Outcomes.{refusal_with, plain_success}
 use Rattle.zone_descriptor.specs.Descriptors.{descriptor_bytes}
-use Rattle.zone_cell.specs.Cells.{Cell, fresh, descriptor_of}
-use Rattle.zone_model.specs.Refusals.{read_rows}
+use Rattle.zone_cell.specs.Cells.{Cell, bytes_at, descriptor_of}
+use Rattle.zone_room.specs.Rooms.{cell_in}
 
--- the cell of a zone
-abbrev pub cell_at : GeometryFields → List Cell → ℕ → Cell
-cell_at g cells z = slice_index_or cells z (fresh g z)
+-- the cell of a zone among cells of which the first is of another
+abbrev pub cell_from : ℕ → List Cell → ℕ → Cell
+cell_from first cells z = cell_in cells (z - first)
 
--- the states of the zones
-abbrev pub state_in : GeometryFields → List Cell → ℕ → State
-state_in g cells z = (cell_at g cells z).state
+abbrev pub state_from : ℕ → List Cell → ℕ → State
+state_from first cells z = (cell_from first cells z).state
 
--- the descriptor of a zone
-abbrev pub descriptor_in : GeometryFields → List Cell → ℕ → List ℕ
-descriptor_in g cells z = descriptor_bytes (descriptor_of g (cell_at g cells z))
+-- one of so many cells from a place on is of an Offline zone
+abbrev pub has_offline : List Cell → ℕ → ℕ → Bool
+has_offline cells from count = list_any (λ i. is_offline (cell_in cells i).state) (range_with_len from count)
 
 -- the bytes of a block
-abbrev pub block_in : GeometryFields → List Cell → ℕ → List ℕ
-block_in g cells lba = seen_block (block_len g) (slice_index_or (cell_at g cells (zone_of g lba)).blocks (offset_of g lba) None)
+abbrev pub block_from : GeometryFields → ℕ → List Cell → ℕ → List ℕ
+block_from g first cells lba = bytes_at (cell_from first cells (zone_of g lba)) (offset_of g lba) 1
 
 -- the bytes of blocks in order
-abbrev pub blocks_in : GeometryFields → List Cell → ℕ → ℕ → List ℕ
-blocks_in g cells slba blocks = flat_map (block_in g cells) (range_with_len slba blocks)
+abbrev pub blocks_from : GeometryFields → ℕ → List Cell → ℕ → ℕ → List ℕ
+blocks_from g first cells slba blocks = flat_map (block_from g first cells) (range_with_len slba blocks)
 
--- A Read of these blocks was refused by the first row that holds, and read nothing, or was done: the blocks stand in
--- front, and what stood behind them stays.
-pub record ReadServed (g : GeometryFields) (cells : List Cell) (nsid slba blocks : ℕ) (old new : List ℕ) (code : Status) (len : ℕ) : Type 0 where
-  pub refused : (s : Status) → first_holding (read_rows g (state_in g cells) nsid slba blocks) ≡ Some s → (code ≡ s) × (len ≡ 0) × (new ≡ old)
-  pub done : first_holding (read_rows g (state_in g cells) nsid slba blocks) ≡ None
-      → (code ≡ success) × (len ≡ blocks * block_len g) × (new ≡ blocks_in g cells slba blocks ++ drop (blocks * block_len g) old)
+-- the cells, of which the first is of a zone, have all zones of these blocks
+pub record CellsReach (g : GeometryFields) (first : ℕ) (cells : List Cell) (slba blocks : ℕ) : Type 0 where
+  pub from : first ≤ zone_of g slba
+  pub to : last_zone g slba blocks < first + length cells
+  pub order : zone_of g slba ≤ last_zone g slba blocks
 
--- room for bytes that one command may move
-abbrev pub HasRoom : GeometryFields → ℕ → ℕ → Type 0
-HasRoom g room bytes = bytes ≤ greatest_transfer g → bytes ≤ room
+-- A Read of these blocks was refused, and read nothing, or was done: the blocks stand in front, and what stood after
+-- them stays.
+pub record ReadServed (g : GeometryFields) (first : ℕ) (cells : List Cell) (slba blocks : ℕ) (old new : List ℕ) (o : Outcome) : Type 0 where
+  pub refused : list_any (λ z. is_offline (state_from first cells z)) (zones_between (zone_of g slba) (last_zone g slba blocks)) ≡ true → (o ≡ refusal_with zone_offline) × (new ≡ old)
+  pub done : list_any (λ z. is_offline (state_from first cells z)) (zones_between (zone_of g slba) (last_zone g slba blocks)) ≡ false
+      → (o ≡ record plain_success { len = blocks * block_len g }) × (new ≡ blocks_from g first cells slba blocks ++ drop (blocks * block_len g) old)
+
+-- the descriptor of a zone's cell
+abbrev pub descriptor_in : GeometryFields → List Cell → ℕ → List ℕ
+descriptor_in g cells z = descriptor_bytes (descriptor_of g (cell_in cells z))

@@ -1,17 +1,18 @@
-//! A drive that serves one command at a time.
+//! A drive that serves one command at a time, and the same on lent zones.
 #![tactic(auto)]
 
-mod appends;
-mod flushes;
-mod front;
-mod posted;
+mod applied;
+mod applying;
+mod reach;
 mod reads;
 mod serving;
 mod solo;
-mod tally;
+
+pub use applied::Applied;
+pub use applying::apply;
+pub use drive_book::{Book, Posted};
+pub use reach::{Reach, reach_of};
+pub use solo::{Parts, Solo};
+
 #[cfg(test)]
 mod tests;
-mod writes;
-
-pub use posted::Posted;
-pub use solo::Solo;

@@ -1,89 +1,103 @@
-ghost use Rattle.std.specs.Prelude.{◌≡◌, ◌≤◌, ℕ, ◌++◌, ◌∷◌, [], List, length, drop, All};
-ghost use Rattle.zone_room.specs.Using.{IsSound};
-ghost use Rattle.zone_model.specs.declared.act.Act.{Act};
-ghost use Rattle.zone_model.specs.Answers.{status, answered};
-ghost use Rattle.zone_model.specs.Replies.{reply_bytes};
-ghost use Rattle.zone_model.specs.Entries.{block_result, result_of};
-ghost use Rattle.solo_drive.specs.Standing.{IsServed, PartsStand};
-ghost use Rattle.solo_drive.specs.Serving.{HasLengths};
+ghost use Rattle.std.specs.Prelude.{◌≡◌, ◌^◌, ◌<◌, ◌≤◌, Some, None, length};
+ghost use Rattle.zns_types.specs.Rows.{first_holding};
+ghost use Rattle.drive_rules.specs.Aims.{aim_of};
+ghost use Rattle.drive_rules.specs.Tables.{front_rows};
+ghost use Rattle.zone_model.specs.Places.{command_of};
+ghost use Rattle.solo_drive.specs.Drives.{HasLengths};
+ghost use Rattle.solo_drive.specs.Parts.{PartsStand};
+ghost use Rattle.solo_drive.specs.Served.{IsServed};
+ghost use Rattle.solo_drive.specs.Applying.{Serves};
+ghost use Rattle.solo_drive.specs.Telling.{Tells};
 
-use crate::appends::append;
-use crate::flushes::flush;
-use crate::reads::{Outcome, read_blocks};
-use crate::writes::write;
-use mgmt_send::act_on_zone;
+use crate::reads::read_blocks;
+use drive_book::{Book, Outcome};
+use drive_rules::{Aim, Deed, aim_of, check_front};
 use sqe_codec::{Cmd, read};
 use zns_types::{Code, Geometry};
 use zone_cell::ZoneCell;
-use zone_limits::Limits;
 use zone_model::Act;
+use zone_room::{Served, serve_deed};
 
-/// Serves an act on the cells of all zones. Whatever acts cells and counts stand for, the code is
-/// the status that the act has behind them, its result is a block's number, the bytes that it reads
-/// there stand in front of `out`, and cells and counts stand for those acts and this one.
+// A block's number is told in two halves, the low one first.
+const HALF: u64 = 1 << 32;
+
+// What a deed that was done to a zone gives beside its status. An Append tells the first of its
+// blocks, which stand from the pointer before it on; an excursion may answer an event request.
+fn outcome_of(book: &mut Book, g: &Geometry, aim: Aim, pointer: u64) -> Outcome
+    requires within { aim.zone < g.now.fields.zones }
+    requires small { pointer ≤ 2 ^ 28 }
+    ensures { Tells g.now.fields aim.zone pointer book.old book.new result aim.deed }
+{
+    match aim.deed {
+        Deed::Append { .. } => {
+            let lba = g.first(aim.zone) + pointer;
+            Outcome {
+                dw0: (lba % HALF) as u32,
+                dw1: (lba / HALF) as u32,
+                ..Outcome::done()
+            }
+        }
+        Deed::Excursion { .. } => Outcome {
+            event: book.note_excursion(aim.zone),
+            ..Outcome::done()
+        },
+        _ => Outcome::done(),
+    }
+}
+
+// Serves a command for a deed to one zone, after the rows that no zone decides.
+fn serve_aim(
+    cells: &mut [ZoneCell],
+    book: &mut Book,
+    g: &Geometry,
+    aim: Aim,
+    act: &Act,
+    out: &mut [u8],
+) -> Option<Outcome>
+    requires passes { first_holding (front_rows g.now.fields (command_of act.now)) ≡ None }
+    requires aim { aim_of g.now.fields (command_of act.now) ≡ Some aim }
+    requires within { aim.zone < g.now.fields.zones }
+    requires lengths { HasLengths g.now.fields act.now (length out.old) }
+    requires parts { PartsStand g.now.fields act.now cells.old book.old }
+    ensures { Serves g.now.fields act.now cells.old cells.new book.old book.new out.old out.new result }
+{
+    let place = (aim.zone - cells[0].zone()) as usize;
+    let all = cells.len() == g.fields().zones as usize;
+    let pointer = cells[place].pointer();
+    let payload = act.payload.as_slice();
+    match serve_deed(cells, &mut book.limits, g, place, all, aim.deed, payload) {
+        Served::Done => Some(outcome_of(book, g, aim, pointer)),
+        Served::Refused(code) => Some(Outcome::refused(code)),
+        Served::Widens => None,
+    }
+}
+
+/// Serves an act on lent cells and a book: all but its entries, its tally and its place in the
+/// journal. Where another zone has to give way that the cells don't have, nothing changes.
 pub fn serve(
     cells: &mut [ZoneCell],
-    limits: &mut Limits,
+    book: &mut Book,
     g: &Geometry,
     act: &Act,
     out: &mut [u8],
-) -> Outcome
+) -> Option<Outcome>
     requires served { IsServed act.now }
-    requires all { length cells.old ≡ g.now.fields.zones }
-    requires sound { All (IsSound g.now.fields limits.old) cells.old }
     requires lengths { HasLengths g.now.fields act.now (length out.old) }
-    ensures status { (acts : List Act) → PartsStand g.now.fields acts cells.old limits.old → result.code ≡ status g.now.fields (answered g.now.fields acts) act.now }
-    ensures len { (acts : List Act) → PartsStand g.now.fields acts cells.old limits.old → result.len ≡ length (reply_bytes g.now.fields (answered g.now.fields acts) act.now) }
-    ensures read { (acts : List Act) → PartsStand g.now.fields acts cells.old limits.old → out.new ≡ reply_bytes g.now.fields (answered g.now.fields acts) act.now ++ drop result.len out.old }
-    ensures result { (acts : List Act) → PartsStand g.now.fields acts cells.old limits.old → block_result result.lba ≡ result_of g.now.fields (answered g.now.fields acts) act.now }
-    ensures stand { (acts : List Act) → PartsStand g.now.fields acts cells.old limits.old → PartsStand g.now.fields (acts ++ act.now ∷ []) cells.new limits.new }
+    requires parts { PartsStand g.now.fields act.now cells.old book.old }
+    ensures { Serves g.now.fields act.now cells.old cells.new book.old book.new out.old out.new result }
 {
-    match read(&act.sqe, act.queue == 0) {
-        Cmd::Write { nsid, slba, blocks } => {
-            let code = write(cells, limits, g, nsid, slba, blocks, act.payload.as_slice());
-            Outcome {
-                code,
-                len: 0,
-                lba: 0,
-            }
+    let command = read(&act.sqe, act.queue == 0);
+    if let Some(code) = check_front(g, command) {
+        return Some(Outcome::refused(code));
+    }
+    if let Some(aim) = aim_of(g, command) {
+        return serve_aim(cells, book, g, aim, act, out);
+    }
+    match command {
+        Cmd::Read { slba, blocks, .. } => {
+            let first = cells[0].zone();
+            Some(read_blocks(cells, g, first, slba, blocks, out))
         }
-        Cmd::Read { nsid, slba, blocks } => read_blocks(cells, g, nsid, slba, blocks, out),
-        Cmd::Send {
-            nsid,
-            slba,
-            action,
-            option,
-            ..
-        } => {
-            let code = act_on_zone(cells, limits, g, nsid, slba, action, option);
-            Outcome {
-                code,
-                len: 0,
-                lba: 0,
-            }
-        }
-        Cmd::Flush { nsid } => Outcome {
-            code: flush(nsid),
-            len: 0,
-            lba: 0,
-        },
-        Cmd::Append {
-            nsid,
-            zslba,
-            blocks,
-        } => append(
-            cells,
-            limits,
-            g,
-            nsid,
-            zslba,
-            blocks,
-            act.payload.as_slice(),
-        ),
-        _ => Outcome {
-            code: Code::INVALID_OPCODE,
-            len: 0,
-            lba: 0,
-        },
+        _ => Some(Outcome::done()),
     }
 }

@@ -1,22 +1,19 @@
-ghost use Rattle.std.specs.Prelude.{◌≡◌, ◌+◌, ◌*◌, ◌<◌, ◌≤◌, ◌^◌, [], ◌∷◌, ◌++◌, IfOk, length, drop, All};
-ghost use Rattle.std.specs.List.{flat_map, range_with_len};
-ghost use Rattle.zone_model.specs.Answers.{answered};
-ghost use Rattle.zone_model.specs.Entries.{posted};
-ghost use Rattle.zone_model.specs.Replies.{reply_bytes, descriptors};
-ghost use Rattle.zone_model.specs.Reports.{bytes_of_all, changed_page};
-ghost use Rattle.zone_model.specs.Notices.{changed};
-ghost use Rattle.zone_model.specs.Zones.{counts, pointer};
-ghost use Rattle.zone_cell.specs.Cells.{IsOf};
-ghost use Rattle.solo_drive.specs.Standing.{IsServed};
-ghost use Rattle.solo_drive.specs.Serving.{HasLengths, AreFresh};
+ghost use Rattle.std.specs.Prelude.{◌≡◌, ◌+◌, ◌*◌, ◌<◌, ◌≤◌, [], ◌∷◌, ◌++◌, IfOk, length, map, drop, All};
+ghost use Rattle.std.specs.List.{flat_map};
+ghost use Rattle.drive_rules.specs.Reports.{bytes_of_all, changed_page};
+ghost use Rattle.zone_cell.specs.Cells.{IsOf, fresh};
+ghost use Rattle.zone_model.specs.Laws.{IsKept};
+ghost use Rattle.zone_model.specs.Replies.{descriptors};
+ghost use Rattle.zone_model.specs.Zones.{counts, pointer, zones};
+ghost use Rattle.solo_drive.specs.Drives.{HasLengths, act_of, drive_of, history, entries_for, bytes_for, changed_zones};
+ghost use Rattle.solo_drive.specs.Parts.{DriveStands};
 ghost use Rattle.solo_drive.specs.Reading.{descriptor_in};
-ghost use Rattle.solo_drive.specs.Drives.{Drive};
+ghost use Rattle.solo_drive.specs.Served.{IsServed};
 
-use crate::posted::Posted;
-use crate::serving::serve;
-use crate::tally::{Tally, post};
-use arrayvec::ArrayVec;
-use sqe_codec::{Sqe, cid};
+use crate::applied::Applied;
+use crate::applying::apply;
+use drive_book::{Book, Posted};
+use sqe_codec::Sqe;
 use std::alloc::Global;
 use std::marker::Model;
 use zns_io::{Bytes, NoMemory};
@@ -24,27 +21,33 @@ use zns_types::Geometry;
 use zone_cell::ZoneCell;
 use zone_descriptor::write;
 use zone_limits::Limits;
-use zone_model::{Act, Journal};
+use zone_model::Journal;
 
 /// A drive that serves one command at a time.
 #[derive(Drop)]
 pub struct Solo {
     geometry: Geometry,
     cells: Vec<ZoneCell>,
-    limits: Limits,
-    tallies: Vec<Tally>,
-    journal: Journal,
+    book: Book,
 }
 
 impl Model for Solo {
-    ghost use Rattle.solo_drive.specs.Drives.{Drive};
-    ghost use Rattle.solo_drive.specs.Standing.{Stands};
+    ghost use Rattle.solo_drive.specs.Drives.{Drive, drive_of};
+    ghost use Rattle.solo_drive.specs.Parts.{DriveStands};
 
     ghost Value = { Drive };
 
-    ghost view = { λ s. record { geometry = s.geometry.fields; acts = s.journal.acts; spare = s.journal.spare } };
+    ghost view = { λ s. drive_of s.geometry.fields s.book.journal };
 
-    ghost invariant = { λ s. Stands s.geometry.fields s.journal.acts s.cells.items s.limits s.tallies.items };
+    ghost invariant = { λ s. DriveStands s.geometry.fields s.cells.items s.book };
+}
+
+/// What a drive consists of: its zones, rising, and what it keeps beside them.
+#[derive(Drop)]
+pub struct Parts {
+    pub cells: Vec<ZoneCell>,
+    pub book: Book,
+    pub geometry: Geometry,
 }
 
 // Writes the descriptors of all zones, rising.
@@ -52,7 +55,7 @@ fn write_descriptors(cells: &[ZoneCell], g: &Geometry, out: &mut [u8])
     requires all { length cells.now ≡ g.now.fields.zones }
     requires of { All (IsOf g.now.fields) cells.now }
     requires room { length out.old ≡ 64 * g.now.fields.zones }
-    ensures { out.new ≡ flat_map (descriptor_in g.now.fields cells.now) (range_with_len 0 g.now.fields.zones) }
+    ensures { out.new ≡ flat_map (descriptor_in g.now.fields cells.now) (zones g.now.fields) }
 {
     for zone in 0..g.fields.zones as usize {
         let descriptor = cells[zone].descriptor(g);
@@ -62,7 +65,7 @@ fn write_descriptors(cells: &[ZoneCell], g: &Geometry, out: &mut [u8])
 
 // The cells of a drive to which nothing was done.
 fn fresh_cells(alloc: Global, g: &Geometry) -> Result<Vec<ZoneCell>, NoMemory>
-    ensures { IfOk result (λ cells. AreFresh g.now.fields cells.items) }
+    ensures { IfOk result (λ cells. cells.items ≡ map (fresh g.now.fields) (zones g.now.fields)) }
 {
     let mut cells = Vec::new(alloc);
     for zone in 0..g.fields.zones {
@@ -78,61 +81,43 @@ impl Solo {
         requires room { room ≤ 262144 }
         ensures { IfOk result (λ s. s ≡ record { geometry = g.fields; acts = []; spare = room }) }
     {
-        let journal = Journal::new(alloc, room)?;
+        let book = Book::new(alloc, &g, room)?;
         let cells = fresh_cells(alloc, &g)?;
-        let none = Tally {
-            acts: 0,
-            entries: 0,
-        };
-        let tallies = vec![in alloc; none; g.fields.queues as usize]?;
         Ok(Solo {
             geometry: g,
             cells,
-            limits: Limits {
-                active: 0,
-                opened: 0,
-                windows: 0,
-            },
-            tallies,
-            journal,
+            book,
         })
     }
 
-    /// Serves one act: the journal gains it, and it is answered as the definitions say of it behind
+    /// Serves one act: the journal gains it, and it is answered as the definitions say of it after
     /// the acts before. What it reads stands in front of `out`; the rest of `out` stays.
     pub fn submit(&mut self, queue: u16, sqe: Sqe, payload: Bytes, out: &mut [u8]) -> Posted
         requires spare { 0 < self.old.spare }
         requires queue { queue < self.old.geometry.queues }
-        requires served { IsServed (record { queue = queue; sqe = sqe; payload = payload }) }
-        requires lengths { HasLengths self.old.geometry (record { queue = queue; sqe = sqe; payload = payload }) (length out.old) }
-        ensures journal { self.new.acts ≡ self.old.acts ++ record { queue = queue; sqe = sqe; payload = payload } ∷ [] }
+        requires served { IsServed (act_of queue sqe payload) }
+        requires lengths { HasLengths self.old.geometry (act_of queue sqe payload)
+            (length out.old) }
+        ensures journal { self.new.acts ≡ self.old.acts ++ act_of queue sqe payload ∷ [] }
         ensures spare { self.new.spare + 1 ≡ self.old.spare }
         ensures geometry { self.new.geometry ≡ self.old.geometry }
-        ensures entries { result.entries.items ≡ posted self.old.geometry (answered self.old.geometry self.old.acts) (record { queue = queue; sqe = sqe; payload = payload }) }
-        ensures len { result.len ≡ length (reply_bytes self.old.geometry (answered self.old.geometry self.old.acts) (record { queue = queue; sqe = sqe; payload = payload })) }
-        ensures read { out.new ≡ reply_bytes self.old.geometry (answered self.old.geometry self.old.acts) (record { queue = queue; sqe = sqe; payload = payload }) ++ drop result.len out.old }
+        ensures entries { result.entries.items ≡ entries_for self.old (act_of queue sqe payload) }
+        ensures len { result.len ≡ length (bytes_for self.old (act_of queue sqe payload)) }
+        ensures read { out.new
+            ≡ bytes_for self.old (act_of queue sqe payload) ++ drop result.len out.old }
+        ensures kept { IsKept self.new.geometry self.new.acts }
     {
-        let act = Act {
+        match apply(
+            &mut self.cells,
+            &mut self.book,
+            &self.geometry,
             queue,
             sqe,
             payload,
-        };
-        let outcome = serve(&mut self.cells, &mut self.limits, &self.geometry, &act, out);
-        let tally = &mut self.tallies[queue as usize];
-        let own = post(
-            tally,
-            &self.geometry,
-            queue,
-            cid(&act.sqe),
-            outcome.code,
-            outcome.lba,
-        );
-        self.journal.push(act);
-        let mut entries = ArrayVec::new();
-        entries.push(own);
-        Posted {
-            entries,
-            len: outcome.len,
+            out,
+        ) {
+            Applied::Done(posted) => posted,
+            Applied::Widen { .. } => unreachable!(),
         }
     }
 
@@ -140,7 +125,7 @@ impl Solo {
     pub fn spare(&self) -> u32
         ensures { result ≡ self.now.spare }
     {
-        self.journal.spare()
+        self.book.journal.spare()
     }
 
     /// The acts that were served.
@@ -148,7 +133,7 @@ impl Solo {
         ensures acts { result.now.acts ≡ self.now.acts }
         ensures spare { result.now.spare ≡ self.now.spare }
     {
-        &self.journal
+        &self.book.journal
     }
 
     /// The drive's numbers.
@@ -160,15 +145,15 @@ impl Solo {
 
     /// How many zones are active, are opened, and have a random write area.
     pub fn limits(&self) -> &Limits
-        ensures { result.now ≡ counts self.now.geometry (answered self.now.geometry self.now.acts) }
+        ensures { result.now ≡ counts self.now.geometry (history self.now) }
     {
-        &self.limits
+        &self.book.limits
     }
 
     /// A zone's write pointer, in blocks from its start.
     pub fn pointer(&self, zone: u32) -> u64
         requires { zone < self.now.geometry.zones }
-        ensures { result ≡ pointer self.now.geometry (answered self.now.geometry self.now.acts) zone }
+        ensures { result ≡ pointer self.now.geometry (history self.now) zone }
     {
         self.cells[zone as usize].pointer()
     }
@@ -176,7 +161,7 @@ impl Solo {
     /// The descriptors of all zones, rising, 64 bytes each.
     pub fn descriptors(&self, out: &mut [u8])
         requires { length out.old ≡ 64 * self.now.geometry.zones }
-        ensures { out.new ≡ bytes_of_all (descriptors self.now.geometry (answered self.now.geometry self.now.acts)) }
+        ensures { out.new ≡ bytes_of_all (descriptors self.now.geometry (history self.now)) }
     {
         write_descriptors(&self.cells, &self.geometry, out);
     }
@@ -184,10 +169,42 @@ impl Solo {
     /// The log page of changed zones, which is kept.
     pub fn page(&self, out: &mut [u8])
         requires { length out.old ≡ 4096 }
-        ensures { out.new ≡ changed_page self.now.geometry (changed self.now.geometry (answered self.now.geometry self.now.acts)) }
+        ensures { out.new ≡ changed_page self.now.geometry (changed_zones self.now) }
     {
-        // Nothing that is served so far changes a zone by itself.
-        let _ = &self.journal;
-        out.fill(0);
+        self.book.log.page(&self.geometry, out);
+    }
+
+    /// What the drive consists of.
+    pub fn into_parts(self) -> Parts
+        ensures stand { DriveStands result.geometry.fields result.cells.items result.book }
+        ensures drive { drive_of result.geometry.fields result.book.journal ≡ self }
+    {
+        let Solo {
+            geometry,
+            cells,
+            book,
+        } = self;
+        Parts {
+            cells,
+            book,
+            geometry,
+        }
+    }
+
+    /// The drive that consists of these parts.
+    pub fn of_parts(parts: Parts) -> Solo
+        requires { DriveStands parts.geometry.fields parts.cells.items parts.book }
+        ensures { result ≡ drive_of parts.geometry.fields parts.book.journal }
+    {
+        let Parts {
+            cells,
+            book,
+            geometry,
+        } = parts;
+        Solo {
+            geometry,
+            cells,
+            book,
+        }
     }
 }

@@ -1,7 +1,7 @@
 ghost use Rattle.std.specs.Prelude.{◌≡◌, ◌==◌, true, IsTrue};
 ghost use Rattle.sqe_codec.specs.Commands.{command};
 ghost use Rattle.sqe_codec.specs.Ranges.{IsWritable};
-ghost use Rattle.solo_drive.specs.Standing.{is_served};
+ghost use Rattle.solo_drive.specs.Served.{is_served};
 
 use super::*;
 use byteorder::{ByteOrder, LittleEndian};
@@ -11,6 +11,8 @@ use std::alloc::Global;
 use std::test::Fail;
 use zns_io::Bytes;
 use zns_types::{Code, Geometry, GeometryFields};
+
+mod managing;
 
 // Zones of 48 blocks of 512 bytes, with no limits.
 const PLAIN: GeometryFields = GeometryFields {
@@ -30,7 +32,19 @@ const PLAIN: GeometryFields = GeometryFields {
     depth: 64,
 };
 
-// The answer to a command: its entry, how many bytes it read, and the room for them, which held EEh.
+// With limits of three active and two opened zones, and one random write area of 8 blocks in
+// granules of 4.
+const SMALL: GeometryFields = GeometryFields {
+    active_limit: 3,
+    open_limit: 2,
+    windows: 1,
+    granule: 4,
+    window: 8,
+    ..PLAIN
+};
+
+// The answer to a command: its entry, how many bytes it read, and the room for them, which held
+// EEh.
 #[derive(Drop)]
 struct Answer {
     entry: Cqe,
@@ -43,6 +57,10 @@ struct Answer {
 type Row = (u16, Cmd, u8, Code, u16, bool);
 
 const DONE: Code = Code::SUCCESS;
+
+const OPEN: u8 = 0x03;
+
+const RESET: u8 = 0x04;
 
 fn put(slba: u64, blocks: u32) -> Cmd {
     Cmd::Write {
@@ -60,6 +78,32 @@ fn get(slba: u64, blocks: u32) -> Cmd {
     }
 }
 
+fn join(zslba: u64, blocks: u32) -> Cmd {
+    Cmd::Append {
+        nsid: 1,
+        zslba,
+        blocks,
+    }
+}
+
+fn send(slba: u64, action: u8, option: bool) -> Cmd {
+    Cmd::Send {
+        nsid: 1,
+        slba,
+        action,
+        all: false,
+        option,
+    }
+}
+
+fn upset(slba: u64, kind: u8) -> Cmd {
+    Cmd::Excursion {
+        nsid: 1,
+        slba,
+        kind,
+    }
+}
+
 fn is_writable(cmd: Cmd) -> bool
     ensures { IsTrue result → IsWritable cmd }
 {
@@ -68,7 +112,7 @@ fn is_writable(cmd: Cmd) -> bool
             1 <= blocks && blocks <= 65_536
         }
         Cmd::Unknown { opcode } => opcode == 0x55,
-        Cmd::Send { .. } | Cmd::Flush { .. } => true,
+        Cmd::Send { .. } | Cmd::Flush { .. } | Cmd::Excursion { .. } => true,
         _ => false,
     }
 }
@@ -81,6 +125,7 @@ fn is_served(sqe: &Sqe, queue: u16) -> bool
         | Cmd::Read { .. }
         | Cmd::Append { .. }
         | Cmd::Flush { .. }
+        | Cmd::Excursion { .. }
         | Cmd::Unknown { .. } => true,
         Cmd::Send { all, .. } => !all,
         _ => false,
@@ -145,17 +190,26 @@ fn drive_of(alloc: Global, fields: GeometryFields) -> Result<Solo, Fail> {
     Ok(Solo::new(alloc, g, 32)?)
 }
 
-// The second byte and the pointer of the descriptor of zone 1.
-fn zone_one(alloc: Global, drive: &Solo) -> Result<(u8, u64), Fail> {
+// The descriptors of all zones.
+fn descriptors_of(alloc: Global, drive: &Solo) -> Result<Vec<u8>, Fail> {
     let zones = drive.geometry().fields().zones as usize;
     let mut out = vec![in alloc; 0xee; 64 * zones]?;
     drive.descriptors(&mut out);
-    if zones < 2 {
-        return Ok((0, 0));
-    }
-    Ok((out[65], LittleEndian::read_u64(&out[88..])))
+    Ok(out)
 }
 
+// The states and pointers of all zones.
+fn zones_of(alloc: Global, drive: &Solo) -> Result<Vec<(u8, u64)>, Fail> {
+    let mut zones = Vec::new(alloc);
+    let mut out = vec![in alloc; 0; 64 * drive.geometry().fields().zones as usize]?;
+    drive.descriptors(&mut out);
+    for zone in 0..drive.geometry().fields().zones {
+        zones.push((out[64 * zone as usize + 1] >> 4, drive.pointer(zone)))?;
+    }
+    Ok(zones)
+}
+
+// On the second drive two pages are the most that one command moves, and queues of depth 2 wrap.
 #[test]
 fn commands_in_turn(rt: HostRuntime) -> Result<(), Fail> {
     let alloc = rt.alloc();
@@ -186,10 +240,22 @@ fn commands_in_turn(rt: HostRuntime) -> Result<(), Fail> {
     ];
     assert_eq!(rt; first_wrong(alloc, &mut drive, &rows)?, None);
     assert_eq!(rt; (drive.spare(), drive.journal().len()), (16, 16));
-    assert_eq!(rt; zone_one(alloc, &drive)?, (0xe0, u64::MAX));
-    let mut page = [0xee; 4096];
-    drive.page(&mut page);
-    assert!(rt; page.iter().all(|x| *x == 0));
+    let fields = GeometryFields {
+        mdts: 1,
+        depth: 2,
+        ..PLAIN
+    };
+    let mut small = drive_of(alloc, fields)?;
+    let rows = [
+        (1, put(0, 1), 0x11, DONE, 1, true),
+        (1, put(1, 1), 0x11, DONE, 0, true),
+        (2, get(0, 17), 0, Code { sct: 0, sc: 0x02 }, 1, true),
+        (1, put(2, 1), 0x11, DONE, 1, false),
+        (1, put(3, 1), 0x11, DONE, 0, false),
+        (2, get(4, 16), 0, DONE, 0, true),
+        (1, get(0, 4), 0x11, DONE, 1, true),
+    ];
+    assert_eq!(rt; first_wrong(alloc, &mut small, &rows)?, None);
     Ok(())
 }
 
@@ -217,51 +283,12 @@ fn reads_cross_zones(rt: HostRuntime) -> Result<(), Fail> {
     Ok(())
 }
 
-// Two pages are the most that one command moves; queues of depth 2 wrap.
-#[test]
-fn limits_of_transfers_and_queues(rt: HostRuntime) -> Result<(), Fail> {
-    let alloc = rt.alloc();
-    let fields = GeometryFields {
-        mdts: 1,
-        depth: 2,
-        ..PLAIN
-    };
-    let mut drive = drive_of(alloc, fields)?;
-    let rows = [
-        (1, put(0, 1), 0x11, DONE, 1, true),
-        (1, put(1, 1), 0x11, DONE, 0, true),
-        (2, get(0, 17), 0, Code { sct: 0, sc: 0x02 }, 1, true),
-        (1, put(2, 1), 0x11, DONE, 1, false),
-        (1, put(3, 1), 0x11, DONE, 0, false),
-        (2, get(4, 16), 0, DONE, 0, true),
-        (1, get(0, 4), 0x11, DONE, 1, true),
-    ];
-    assert_eq!(rt; first_wrong(alloc, &mut drive, &rows)?, None);
-    Ok(())
-}
-
-// The states and pointers of all zones.
-fn zones_of(alloc: Global, drive: &Solo) -> Result<Vec<(u8, u64)>, Fail> {
-    let mut zones = Vec::new(alloc);
-    let mut out = vec![in alloc; 0; 64 * drive.geometry().fields().zones as usize]?;
-    drive.descriptors(&mut out);
-    for zone in 0..drive.geometry().fields().zones {
-        zones.push((out[64 * zone as usize + 1] >> 4, drive.pointer(zone)))?;
-    }
-    Ok(zones)
-}
-
 // With three active and two opened zones at most, the third zone that is written closes the first,
 // a fourth is refused, and a closed one that is written again closes the next.
 #[test]
 fn zones_in_use_stay_within_their_limits(rt: HostRuntime) -> Result<(), Fail> {
     let alloc = rt.alloc();
-    let fields = GeometryFields {
-        active_limit: 3,
-        open_limit: 2,
-        ..PLAIN
-    };
-    let mut drive = drive_of(alloc, fields)?;
+    let mut drive = drive_of(alloc, SMALL)?;
     let too_many = Code { sct: 1, sc: 0xbd };
     // a Write, its status, then the active and opened zones, and all zones' states and pointers
     let rows = [
@@ -298,138 +325,61 @@ fn zones_in_use_stay_within_their_limits(rt: HostRuntime) -> Result<(), Fail> {
     Ok(())
 }
 
-// With limits of three active and two opened zones, and one random write area of 8 blocks in
-// granules of 4.
-const SMALL: GeometryFields = GeometryFields {
-    active_limit: 3,
-    open_limit: 2,
-    windows: 1,
-    granule: 4,
-    window: 8,
-    ..PLAIN
-};
-
-fn send(slba: u64, action: u8, option: bool) -> Cmd {
-    Cmd::Send {
-        nsid: 1,
-        slba,
-        action,
-        all: false,
-        option,
-    }
-}
-
-const CLOSE: u8 = 0x01;
-
-const FINISH: u8 = 0x02;
-
-const OPEN: u8 = 0x03;
-
-const RESET: u8 = 0x04;
-
-const OFFLINE: u8 = 0x05;
-
-const FLUSH: u8 = 0x11;
-
-// A command, the byte that it writes or reads, its status, and zone 0's state and pointer after it.
-type Managed = (Cmd, u8, Code, u8, u64);
-
-// Serves the rows up to the first that is answered otherwise, or leaves zone 0 otherwise.
-fn first_unmanaged(
-    alloc: Global,
-    drive: &mut Solo,
-    rows: &[Managed],
-) -> Result<Option<usize>, Fail> {
-    for (i, (cmd, byte, code, state, pointer)) in rows.iter().enumerate() {
-        let Some(answer) = serve(alloc, drive, 1, *cmd, *byte)? else {
-            return Ok(Some(i));
-        };
-        let zones = zones_of(alloc, drive)?;
-        let is_left = zones.as_slice().first() == Some(&(*state, *pointer));
-        if answer.entry.code != *code || !is_filled(&answer, *byte) || !is_left {
-            return Ok(Some(i));
+// An entry says not to retry, unless another command may give back what was wanting.
+#[test]
+fn entries_say_whether_to_retry(rt: HostRuntime) -> Result<(), Fail> {
+    let alloc = rt.alloc();
+    let no_area = Code { sct: 1, sc: 0xb7 };
+    let misplaced = Code { sct: 1, sc: 0xbc };
+    let active = Code { sct: 1, sc: 0xbd };
+    let opened = Code { sct: 1, sc: 0xbe };
+    // the commands of each drive with their statuses, and whether the last two entries say so
+    let drives = [
+        (
+            [put(0, 1), put(64, 1), put(128, 1), put(192, 1), put(2, 1)],
+            [DONE, DONE, DONE, active, misplaced],
+        ),
+        (
+            [
+                send(0, OPEN, false),
+                send(64, OPEN, false),
+                get(0, 1),
+                put(128, 1),
+                put(129, 1),
+            ],
+            [DONE, DONE, DONE, opened, misplaced],
+        ),
+        (
+            [
+                send(0, OPEN, true),
+                get(0, 1),
+                get(0, 1),
+                send(64, OPEN, true),
+                put(65, 1),
+            ],
+            [DONE, DONE, DONE, no_area, misplaced],
+        ),
+    ];
+    for (k, (cmds, codes)) in drives.iter().enumerate() {
+        let mut drive = drive_of(alloc, SMALL)?;
+        for (i, (cmd, code)) in cmds.iter().zip(codes).enumerate() {
+            match serve(alloc, &mut drive, 1, *cmd, 0)? {
+                None => assert!(rt; false, "{k} {i}"),
+                Some(answer) => {
+                    let entry = answer.entry;
+                    assert_eq!(rt; (entry.code, entry.dnr), (*code, i == 4), "{k} {i}");
+                }
+            }
         }
     }
-    Ok(None)
-}
-
-#[test]
-fn zones_are_managed(rt: HostRuntime) -> Result<(), Fail> {
-    let alloc = rt.alloc();
-    let no_transition = Code { sct: 1, sc: 0xbf };
-    let invalid = Code::INVALID_FIELD;
-    let mut drive = drive_of(alloc, PLAIN)?;
-    let rows = [
-        (send(0, CLOSE, false), 0, no_transition, 1, 0),
-        (send(1, OPEN, false), 0, invalid, 1, 0),
-        (send(0, 0x10, false), 0, invalid, 1, 0),
-        (send(256, OPEN, false), 0, Code::LBA_OUT_OF_RANGE, 1, 0),
-        (send(0, OPEN, true), 0, Code { sct: 1, sc: 0xb6 }, 1, 0),
-        (send(0, FLUSH, false), 0, Code { sct: 1, sc: 0xb6 }, 1, 0),
-        (put(0, 1), 0x11, DONE, 2, 1),
-        (send(0, OPEN, false), 0, DONE, 3, 1),
-        (send(0, CLOSE, false), 0, DONE, 4, 1),
-        (get(0, 1), 0x11, DONE, 4, 1),
-        (send(0, FINISH, false), 0, DONE, 14, 48),
-        (put(0, 1), 0x22, Code { sct: 1, sc: 0xb9 }, 14, 48),
-        (get(0, 1), 0x11, DONE, 14, 48),
-        (send(0, OFFLINE, false), 0, no_transition, 14, 48),
-        (send(0, RESET, false), 0, DONE, 1, 0),
-        (get(0, 1), 0, DONE, 1, 0),
-    ];
-    assert_eq!(rt; first_unmanaged(alloc, &mut drive, &rows)?, None);
     Ok(())
-}
-
-#[test]
-fn a_random_write_area_moves(rt: HostRuntime) -> Result<(), Fail> {
-    let alloc = rt.alloc();
-    let past = Code { sct: 1, sc: 0xb8 };
-    let mut drive = drive_of(alloc, SMALL)?;
-    let rows = [
-        (send(0, OPEN, true), 0, DONE, 3, 0),
-        (put(4, 2), 0x11, DONE, 3, 0),
-        (put(4, 2), 0x22, DONE, 3, 0),
-        (get(4, 2), 0x22, DONE, 3, 0),
-        (get(0, 1), 0, DONE, 3, 0),
-        (put(8, 1), 0x33, DONE, 3, 4),
-        (put(15, 1), 0x33, DONE, 3, 8),
-        (put(24, 1), 0x33, Code { sct: 1, sc: 0xbc }, 3, 8),
-        (send(10, FLUSH, false), 0, Code::INVALID_FIELD, 3, 8),
-        (send(16, FLUSH, false), 0, past, 3, 8),
-        (send(11, FLUSH, false), 0, DONE, 3, 12),
-        (send(11, FLUSH, false), 0, past, 3, 12),
-        (send(64, OPEN, true), 0, Code { sct: 1, sc: 0xb7 }, 3, 12),
-        (send(19, FLUSH, false), 0, DONE, 3, 20),
-        (send(27, FLUSH, false), 0, DONE, 3, 28),
-        (send(35, FLUSH, false), 0, DONE, 3, 36),
-        (send(43, FLUSH, false), 0, DONE, 3, 44),
-        (put(48, 1), 0x44, past, 3, 44),
-        (put(44, 4), 0x44, DONE, 3, 44),
-        (send(47, FLUSH, false), 0, DONE, 14, 48),
-        (put(40, 1), 0x44, Code { sct: 1, sc: 0xb9 }, 14, 48),
-        (send(64, OPEN, true), 0, DONE, 14, 48),
-        (send(128, OPEN, false), 0, DONE, 14, 48),
-        (put(192, 1), 0x44, Code { sct: 1, sc: 0xbe }, 14, 48),
-    ];
-    assert_eq!(rt; first_unmanaged(alloc, &mut drive, &rows)?, None);
-    assert_eq!(rt; drive.limits().windows, 1);
-    Ok(())
-}
-
-fn join(zslba: u64, blocks: u32) -> Cmd {
-    Cmd::Append {
-        nsid: 1,
-        zslba,
-        blocks,
-    }
 }
 
 // An Append tells its first block, in two dwords.
 #[test]
 fn appends_tell_their_first_block(rt: HostRuntime) -> Result<(), Fail> {
     let alloc = rt.alloc();
-    let mut drive = drive_of(alloc, GeometryFields { zasl: 0, ..SMALL })?;
+    let mut drive = drive_of(alloc, SMALL)?;
     // a command, its status, its result, and its zone's pointer after it
     let rows = [
         (join(64, 2), DONE, 64, 2),
@@ -465,5 +415,38 @@ fn appends_tell_their_first_block(rt: HostRuntime) -> Result<(), Fail> {
             "{i}"
         );
     }
+    Ok(())
+}
+
+// The drive of another's parts goes on with it, and lists the zones that excursions changed.
+#[test]
+fn a_drive_of_parts_serves_on(rt: HostRuntime) -> Result<(), Fail> {
+    let alloc = rt.alloc();
+    let mut drive = drive_of(alloc, PLAIN)?;
+    let rows = [
+        (1, put(64, 1), 0x11, DONE, 1, true),
+        (0, upset(64, 1), 0, DONE, 1, true),
+        (0, upset(65, 1), 0, Code::INVALID_FIELD, 2, true),
+    ];
+    assert_eq!(rt; first_wrong(alloc, &mut drive, &rows)?, None);
+    let mut after = Solo::of_parts(drive.into_parts());
+    let rows = [
+        (1, put(65, 1), 0x22, Code { sct: 1, sc: 0xb9 }, 2, true),
+        (1, get(64, 1), 0x11, DONE, 3, true),
+        (0, upset(192, 5), 0, DONE, 3, true),
+    ];
+    assert_eq!(rt; first_wrong(alloc, &mut after, &rows)?, None);
+    assert_eq!(rt; (after.spare(), after.journal().len()), (26, 6));
+    let mut page = [0xee; 4096];
+    after.page(&mut page);
+    assert_eq!(rt; LittleEndian::read_u64(&page), 2);
+    assert_eq!(rt; LittleEndian::read_u64(&page[8..]), 64);
+    assert_eq!(rt; LittleEndian::read_u64(&page[16..]), 192);
+    assert!(rt; page[24..].iter().all(|x| *x == 0));
+    let shown = descriptors_of(alloc, &after)?;
+    assert!(rt; shown.len() == 256);
+    // zone 1 was finished by the controller, and zone 3 is Offline
+    assert_eq!(rt; (shown[65], shown[66], shown[193]), (0xe0, 1, 0xf0));
+    assert_eq!(rt; LittleEndian::read_u64(&shown[88..]), u64::MAX);
     Ok(())
 }

@@ -1,31 +1,23 @@
-use Rattle.std.proofs.Common.{◌≡◌, ◌+◌, ◌-◌, ◌<◌, ℕ, true, false, length, sym, ap, ◌∙◌, arith, suc}
+use Rattle.std.proofs.Common.{◌≡◌, true, false, ℕ, sym, ap, ◌∙◌, arith}
 use Rattle.zns_types.specs.States.{is_offline}
-use Rattle.solo_drive.specs.Reading.{state_in}
-use Rattle.solo_drive.proofs.ShownStates.{shown_state}
-use Rattle.solo_drive.proofs.Ranges.{any_at, none_more}
+use Rattle.zone_cell.specs.Cells.{Cell}
+use Rattle.zone_room.specs.Rooms.{cell_in}
+use Rattle.solo_drive.proofs.LentReads.{cell-there}
+use Rattle.solo_drive.proofs.Ranges.{any-found, any-none}
 use Rattle.solo_drive.proofs.reads.any_offline.Goals as goal
 
 pub returns-then-is_offline : goal.returns-then-is_offline
 returns-then-is_offline c =
-    let g = c.args.g.now.fields in
     let cells = c.args.cells.now in
-    let z = c.loop-zone.zone in
-    let lt : z < length cells = omega arith in
-    let shown = shown_state g cells z c.index-cells-zone.result lt c.index-cells-zone.is in
-    let k = z - c.args.first in
-    let at : c.args.first + k ≡ z = omega arith in
-    let here : is_offline (state_in g cells (c.args.first + k)) ≡ true = ap (λ (n : ℕ). is_offline (state_in g cells n)) at ∙ ap is_offline (sym shown ∙ sym c.state.ensures) ∙ sym c.is_offline.ensures ∙ c.if-is_offline.true in
-    sym (any_at (λ z. is_offline (state_in g cells z)) c.args.first (c.args.last + 1 - c.args.first) k (omega arith) here)
+    let place = c.loop-place.place in
+    let there = cell-there cells place c.index-cells-place.result (omega arith) c.index-cells-place.is in
+    let here : is_offline (cell_in cells place).state ≡ true = ap (λ (x : Cell). is_offline x.state) (sym there) ∙ ap is_offline (sym c.state.ensures) ∙ sym c.is_offline.ensures ∙ c.if-is_offline.true in
+    sym (any-found (λ (i : ℕ). is_offline (cell_in cells i).state) c.args.from c.args.count place (omega arith) (omega arith) here)
 
-pub loop-zone-preserved : goal.loop-zone-preserved
-loop-zone-preserved c =
-    let g = c.args.g.now.fields in
+pub loop-place-preserved : goal.loop-place-preserved
+loop-place-preserved c =
     let cells = c.args.cells.now in
-    let z = c.loop-zone.zone in
-    let lt : z < length cells = omega arith in
-    let shown = shown_state g cells z c.index-cells-zone.result lt c.index-cells-zone.is in
-    let k = z - c.args.first in
-    let at : c.args.first + k ≡ z = omega arith in
-    let here : is_offline (state_in g cells (c.args.first + k)) ≡ false = ap (λ (n : ℕ). is_offline (state_in g cells n)) at ∙ ap is_offline (sym shown ∙ sym c.state.ensures) ∙ sym c.is_offline.ensures ∙ c.if-is_offline.false in
-    let next : z + 1 - c.args.first ≡ suc k = omega arith in
-    rw next (none_more (λ z. is_offline (state_in g cells z)) c.args.first k c.loop-zone.invariant here)
+    let place = c.loop-place.place in
+    let there = cell-there cells place c.index-cells-place.result (omega arith) c.index-cells-place.is in
+    let here : is_offline (cell_in cells place).state ≡ false = ap (λ (x : Cell). is_offline x.state) (sym there) ∙ ap is_offline (sym c.state.ensures) ∙ sym c.is_offline.ensures ∙ c.if-is_offline.false in
+    any-none (λ (i : ℕ). is_offline (cell_in cells i).state) c.args.from place (omega arith) c.loop-place.invariant here

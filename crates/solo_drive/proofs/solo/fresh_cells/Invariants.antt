@@ -1,9 +1,7 @@
-use Rattle.std.proofs.Common.{◌≡◌, ℕ, ◌<◌, vec_len, get_or}
-use Rattle.zone_cell.specs.Cells.{Cell, fresh}
+use Rattle.std.proofs.Common.{◌≡◌, map}
+use Rattle.std.specs.List.{range_with_len}
+use Rattle.zone_cell.specs.Cells.{fresh}
 use Rattle.solo_drive.proofs.solo.fresh_cells.Given as goal
 
 abbrev pub invariant-loop-zone : goal.invariant-loop-zone
-invariant-loop-zone l = record {
-  len : vec_len l.cells ≡ l.zone;
-  each : (z : ℕ) → z < l.zone → (d : Cell) → get_or l.cells.items z d ≡ fresh l.g.fields z;
-}
+invariant-loop-zone l = l.cells.items ≡ map (fresh l.g.fields) (range_with_len 0 l.zone)

@@ -1,0 +1,47 @@
+ghost use Rattle.std.specs.Prelude.{◌≡◌, ◌<◌, length};
+ghost use Rattle.solo_drive.specs.Drives.{HasLengths, act_of};
+ghost use Rattle.solo_drive.specs.Parts.{PartsStand};
+ghost use Rattle.solo_drive.specs.Served.{IsServed};
+ghost use Rattle.solo_drive.specs.Applying.{Applies};
+
+use crate::applied::Applied;
+use crate::serving::serve;
+use drive_book::Book;
+use sqe_codec::Sqe;
+use zns_io::Bytes;
+use zns_types::Geometry;
+use zone_cell::ZoneCell;
+use zone_model::Act;
+
+/// Serves a command on lent cells, which are those of its reach, rising, or all, and on the book of
+/// their drive. What it reads stands in front of `out`; the rest of `out` stays.
+pub fn apply(
+    cells: &mut [ZoneCell],
+    book: &mut Book,
+    g: &Geometry,
+    queue: u16,
+    sqe: Sqe,
+    payload: Bytes,
+    out: &mut [u8],
+) -> Applied
+    requires spare { 0 < book.old.journal.spare }
+    requires queue { queue < g.now.fields.queues }
+    requires served { IsServed (act_of queue sqe payload) }
+    requires lengths { HasLengths g.now.fields (act_of queue sqe payload) (length out.old) }
+    requires parts { PartsStand g.now.fields (act_of queue sqe payload) cells.old book.old }
+    ensures { Applies g.now.fields (act_of queue sqe payload)
+        cells.old cells.new book.old book.new out.old out.new result }
+{
+    let act = Act {
+        queue,
+        sqe,
+        payload,
+    };
+    match serve(cells, book, g, &act, out) {
+        Some(outcome) => Applied::Done(book.post(g, act, outcome)),
+        None => {
+            let Act { payload, .. } = act;
+            Applied::Widen { payload }
+        }
+    }
+}
