@@ -20,7 +20,7 @@ first_of rows NoMemory h = tt
 first_of rows (Bad reason offset) h = h
 first_of rows (Large which number) h = h
 
--- the rules behind it don't count
+-- the rules after it don't count
 pub first_of-front : (rows more : List (Row FileErr)) (e : FileErr) → IsFirstOf rows e → IsFirstOf (rows ++ more) e
 first_of-front rows more NoMemory f = tt
 first_of-front rows more (Bad reason offset) f = first_holding-append_some rows more (Bad reason offset) f
@@ -32,7 +32,7 @@ first_of-back rows more NoMemory h f = tt
 first_of-back rows more (Bad reason offset) h f = first_holding-append_none rows more h ∙ f
 first_of-back rows more (Large which number) h f = first_holding-append_none rows more h ∙ f
 
--- where no rule is broken, memory is wanting
+-- where no rule is broken, memory ran out
 pub no_memory : (rows : List (Row FileErr)) (e : FileErr) → first_holding rows ≡ None → IsFirstOf rows e → e ≡ NoMemory
 no_memory rows NoMemory h f = refl
 no_memory rows (Bad reason offset) h f = absurd cc

@@ -85,7 +85,7 @@ is_front bytes fits valid e =
       within = r.within;
     }
 
--- the front of bytes, by what is behind it
+-- the front of bytes, by what comes after it
 pub taken : (front : List ℕ) (end : ℕ) (bytes : List ℕ) → end ≤ length bytes → front ++ drop end bytes ≡ bytes → take end bytes ≡ front
 taken front end bytes h e =
     let long : length front ≡ end = omega (arith, ap length e, length-append front (drop end bytes), length-drop end bytes) in

@@ -14,3 +14,4 @@ pub mod OrderPlaces
 pub mod OrderCounts
 pub mod OrderFronts
 pub mod OrderSteps
+pub mod Spelled

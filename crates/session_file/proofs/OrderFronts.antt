@@ -4,7 +4,7 @@ use Rattle.std.proofs.lemmas.Bool.Decides.{nat_tests}
 use Rattle.std.proofs.lemmas.List.{drop-drop, length-drop, length-append, take_at}
 use Rattle.std.proofs.lemmas.List.Elements.{recursion_from_All}
 use Rattle.std.proofs.lemmas.Slice.Eq.{bytes_eq-Decides}
-use Rattle.std.specs.Prelude.{slice_index, ◌==◌, All}
+use Rattle.std.specs.Prelude.{slice_index, count_by, ◌==◌, All}
 use Rattle.std.specs.List.{flat_map, AllByRecursion}
 use Rattle.byteorder.specs.Endian.{little_bytes, little_number}
 use Rattle.byteorder.specs.Numbers.{little_number-reads_back}
@@ -13,14 +13,13 @@ use Rattle.zns_types.specs.Rows.{first_holding}
 use Rattle.zns_types.proofs.FieldLemmas.{little_bytes-field}
 use Rattle.zns_types.proofs.RowLemmas.{NoneHolds, none_holds, none_answers, first_holding-append_none}
 use Rattle.zone_model.specs.declared.act.Act.{Act}
-use Rattle.zone_model.specs.Sessions.{Recorded, IsSession, IsAct, is_of, IsOrder, order_bytes}
+use Rattle.zone_model.specs.Sessions.{Recorded, IsSession, IsAct, IsOrder, order_bytes}
 use Rattle.session_file.specs.declared.file_err.FileErr.{FileErr}
 use Rattle.session_file.specs.Faults.{IsFirstOf}
 use Rattle.session_file.specs.Orders.{queues_from, order_rows, order_front_rows, result_rows}
 use Rattle.session_file.proofs.Firsts.{first_of, first_of-front, first_of-back}
 use Rattle.session_file.proofs.Fronts.{not_false, not_true}
 use Rattle.session_file.proofs.RecordPlaces.{joined}
-use Rattle.session_file.proofs.OrderLists.{count, count-is}
 use Rattle.session_file.proofs.OrderPlaces.{order_counts, IsRead, is_read, queues_spelled}
 
 -- what the rules of the front stand for
@@ -67,8 +66,7 @@ order_spelled bytes from n order fits e same =
 
 -- the queues are an order of the acts
 pub order_is : (bytes : List ℕ) (at : ℕ) (acts : List Act) (order : List ℕ) → first_holding (order_rows (length acts) bytes at acts) ≡ None → order ≡ queues_from (length acts) at bytes → IsOrder acts order
-order_is bytes at acts order e same = λ k.
-    sym (count-is (λ q. q == k) order) ∙ ap (count (λ q. q == k)) same ∙ order_counts (length acts) at bytes acts refl e k ∙ count-is (is_of k) acts
+order_is bytes at acts order e same = λ k. ap (count_by (λ q. q == k)) same ∙ order_counts (length acts) at bytes acts refl e k
 
 pub result-passed : (bytes : List ℕ) (from : ℕ) (acts : List Act) → first_holding (order_front_rows bytes from (length acts)) ≡ None → first_holding (order_rows (length acts) bytes (from + 12) acts) ≡ None → first_holding (result_rows bytes from acts) ≡ None
 unfolding result_rows
@@ -96,12 +94,11 @@ few_queues s is = recursion_from_All (λ (a : Act). a.queue < 17) s.acts (all_fe
 pub is_order_of : (bytes : List ℕ) (from : ℕ) (s : Recorded) (order after : List ℕ) → IsSession s → IsOrder s.acts order → drop from bytes ≡ order_bytes order ++ after → IsOrderOf bytes from s.acts order
 is_order_of bytes from s order after is o e =
     let tail : List ℕ = flat_map (little_bytes 2) order ++ after in
-    let behind : drop (from + 12) bytes ≡ tail = sym (drop-drop 12 from bytes) ∙ ap (drop 12) e in
-    let same : (k : ℕ) → count (λ q. q == k) order ≡ count (is_of k) s.acts = λ k. count-is (λ q. q == k) order ∙ o k ∙ sym (count-is (is_of k) s.acts) in
-    let r : IsRead order (from + 12) bytes s.acts = is_read order (from + 12) bytes s.acts after same (few_queues s is) behind in
+    let later : drop (from + 12) bytes ≡ tail = sym (drop-drop 12 from bytes) ∙ ap (drop 12) e in
+    let r : IsRead order (from + 12) bytes s.acts = is_read order (from + 12) bytes s.acts after o (few_queues s is) later in
     let number : field (from + 8) 4 bytes ≡ length order = ap (little_number 4) (sym (drop-drop 8 from bytes) ∙ ap (drop 8) e) ∙ little_number-reads_back 4 (length order) tail (omega (arith, r.count, is.count)) in
     let heads : Heads bytes from (length s.acts) = record {
-      long = omega (arith, r.count, ap length behind, length-drop (from + 12) bytes, length-append (flat_map (little_bytes 2) order) after, length-flat_map_two order, ap length e, length-drop from bytes);
+      long = omega (arith, r.count, ap length later, length-drop (from + 12) bytes, length-append (flat_map (little_bytes 2) order) after, length-flat_map_two order, ap length e, length-drop from bytes);
       magic = ap (take 8) e;
       count = number ∙ r.count;
     } in

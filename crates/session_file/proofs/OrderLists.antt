@@ -1,78 +1,79 @@
--- Counts of the acts of a queue, of those that are left, and of the queues of an order.
-use Rattle.std.proofs.Common.{◌≡◌, ℕ, suc, ◌+◌, ◌<◌, Bool, true, false, cond, List, [], ◌∷◌, length, Some, refl, sym, ap, ◌∙◌, arith}
-use Rattle.std.proofs.lemmas.Bool.Decides.{nat_tests}
-use Rattle.std.proofs.lemmas.List.Recursion.{is_count_by}
-use Rattle.std.specs.Prelude.{is_some, nat_lt, count_by, ◌==◌}
+-- The next act of a queue, and the acts that it leaves.
+use Rattle.std.proofs.Common.{◌≡◌, ℕ, ◌+◌, ◌<◌, Bool, true, false, cond, List, [], ◌∷◌, Option, Some, None, refl, ap, ◌∙◌, subst, arith}
+use Rattle.std.proofs.lemmas.Bool.{eqb-true}
+use Rattle.std.specs.Prelude.{count_by, is_some, ◌==◌}
 use Rattle.std.specs.List.{AllByRecursion}
+use Rattle.drive_rules.specs.Shown.{one}
 use Rattle.zone_model.specs.declared.act.Act.{Act}
 use Rattle.zone_model.specs.Sessions.{is_of, next_of, rest_of}
+use Rattle.zone_model.proofs.Merging.{IsNext, is_next, none-next, mine-counts}
 
--- how many pass a test
-abbrev pub count : {X : Type 0} → (X → Bool) → List X → ℕ
-count p [] = 0
-count p (x ∷ xs) = cond (p x) (1 + count p xs) (count p xs)
+-- a queue has a next act
+pub record HasNext (queue : ℕ) (acts : List Act) : Type 0 where
+  pub act : Act
+  pub found : next_of queue acts ≡ Some act
+  pub next : IsNext queue acts act
 
-pub count-is : {X : Type 0} (p : X → Bool) (xs : List X) → count p xs ≡ count_by p xs
-count-is p xs = is_count_by (count p) p refl (λ x ys. refl) xs
+found-next : (queue : ℕ) (acts : List Act) (a : Act) → next_of queue acts ≡ Some a → HasNext queue acts
+found-next queue acts a e = record { act = a; found = e; next = is_next queue acts a e }
 
--- a queue has a further act where it has acts
-pub next_of-count : (queue : ℕ) (acts : List Act) → is_some (next_of queue acts) ≡ nat_lt 0 (count (is_of queue) acts)
-next_of-count queue [] = refl
-next_of-count queue (a ∷ acts) = go (is_of queue a) (next_of-count queue acts)
+pub some-next : (queue : ℕ) (acts : List Act) → is_some (next_of queue acts) ≡ true → HasNext queue acts
+some-next queue acts some = by_next (next_of queue acts) refl some
   where
-    go : (b : Bool) → is_some (next_of queue acts) ≡ nat_lt 0 (count (is_of queue) acts) → is_some (cond b (Some a) (next_of queue acts)) ≡ nat_lt 0 (cond b (1 + count (is_of queue) acts) (count (is_of queue) acts))
-    go true h = grind (arith, nat_tests)
-    go false h = h
+    by_next : (o : Option Act) → next_of queue acts ≡ o → is_some o ≡ true → HasNext queue acts
+    by_next None e h = absurd (cc h)
+    by_next (Some a) e h = found-next queue acts a e
 
-pub cond_add : (b : Bool) (n : ℕ) → cond b (1 + n) n ≡ cond b 1 0 + n
-cond_add true n = refl
-cond_add false n = omega arith
-
-cond_both : (b : Bool) (c d r : ℕ) → c ≡ d + r → cond b (1 + c) c ≡ d + cond b (1 + r) r
-cond_both true c d r e = omega arith
-cond_both false c d r e = e
-
--- one act of a queue less
-pub rest_of-count : (queue k : ℕ) (acts : List Act) → 0 < count (is_of queue) acts → count (is_of k) acts ≡ cond (queue == k) 1 0 + count (is_of k) (rest_of queue acts)
-rest_of-count queue k [] h = absurd (omega arith)
-rest_of-count queue k (a ∷ acts) h = go (is_of queue a) refl h (rest_of-count queue k acts)
+pub counted-next : (queue : ℕ) (acts : List Act) → 0 < count_by (is_of queue) acts → HasNext queue acts
+counted-next queue acts some = by_next (next_of queue acts) refl
   where
-    go : (b : Bool) → is_of queue a ≡ b → 0 < cond b (1 + count (is_of queue) acts) (count (is_of queue) acts) → (0 < count (is_of queue) acts → count (is_of k) acts ≡ cond (queue == k) 1 0 + count (is_of k) (rest_of queue acts)) → cond (is_of k a) (1 + count (is_of k) acts) (count (is_of k) acts) ≡ cond (queue == k) 1 0 + count (is_of k) (cond b acts (a ∷ rest_of queue acts))
-    go true e h ih =
-        let same : a.queue ≡ queue = grind (arith, nat_tests) in
-        cond_add (is_of k a) (count (is_of k) acts) ∙ ap (λ q. cond (q == k) 1 0 + count (is_of k) acts) same
-    go false e h ih = cond_both (is_of k a) (count (is_of k) acts) (cond (queue == k) 1 0) (count (is_of k) (rest_of queue acts)) (ih h)
+    by_next : (o : Option Act) → next_of queue acts ≡ o → HasNext queue acts
+    by_next None e = absurd (omega (arith, some, none-next queue acts e))
+    by_next (Some a) e = found-next queue acts a e
 
-pub rest_of-length : (queue : ℕ) (acts : List Act) → 0 < count (is_of queue) acts → length acts ≡ suc (length (rest_of queue acts))
-rest_of-length queue [] h = absurd (omega arith)
-rest_of-length queue (a ∷ acts) h = go (is_of queue a) h (rest_of-length queue acts)
-  where
-    go : (b : Bool) → 0 < cond b (1 + count (is_of queue) acts) (count (is_of queue) acts) → (0 < count (is_of queue) acts → length acts ≡ suc (length (rest_of queue acts))) → suc (length acts) ≡ suc (length (cond b acts (a ∷ rest_of queue acts)))
-    go true h k = refl
-    go false h k = ap suc (k h)
+-- how many acts each queue has: one more of this queue than are left
+pub next-count : (queue : ℕ) (acts : List Act) → HasNext queue acts → (k : ℕ) → count_by (is_of k) acts ≡ one (queue == k) + count_by (is_of k) (rest_of queue acts)
+next-count queue acts has k =
+    let same : has.act.queue ≡ queue = eqb-true has.act.queue queue has.next.of_queue in
+    has.next.count k ∙ ap (λ (q : ℕ). one (q == k) + count_by (is_of k) (rest_of queue acts)) same
 
--- what holds of all acts holds of those that are left
-pub rest_of-all : (P : Act → Type 0) (queue : ℕ) (acts : List Act) → AllByRecursion P acts → AllByRecursion P (rest_of queue acts)
-rest_of-all P queue [] h = tt
-rest_of-all P queue (a ∷ acts) h = go (is_of queue a) (rest_of-all P queue acts h.1)
+-- a queue without acts has no next one
+pub uncounted-next : (queue : ℕ) (acts : List Act) → count_by (is_of queue) acts ≡ 0 → is_some (next_of queue acts) ≡ false
+uncounted-next queue acts none = by_next (next_of queue acts) refl
   where
-    go : (b : Bool) → AllByRecursion P (rest_of queue acts) → AllByRecursion P (cond b acts (a ∷ rest_of queue acts))
-    go true k = h.1
-    go false k = (h.0, k)
+    by_next : (o : Option Act) → next_of queue acts ≡ o → is_some o ≡ false
+    by_next None e = refl
+    by_next (Some a) e =
+        let next = is_next queue acts a e in
+        let own : one (is_of queue a) ≡ 1 = ap one next.of_queue in
+        absurd (omega (arith, none, next.count queue, own))
+
+-- what holds of all acts holds of the next one
+pub next-all : (P : Act → Type 0) (queue : ℕ) (acts : List Act) (a : Act) → AllByRecursion P acts → next_of queue acts ≡ Some a → P a
+next-all P queue [] a all e = absurd (cc e)
+next-all P queue (b ∷ acts) a all e = by_first (is_of queue b) e (next-all P queue acts a all.1)
+  where
+    by_first : (first : Bool) → cond first (Some b) (next_of queue acts) ≡ Some a → (next_of queue acts ≡ Some a → P a) → P a
+    by_first true e k = let same : b ≡ a = cc in subst P same all.0
+    by_first false e k = k e
+
+-- and of those that are left
+pub rest-all : (P : Act → Type 0) (queue : ℕ) (acts : List Act) → AllByRecursion P acts → AllByRecursion P (rest_of queue acts)
+rest-all P queue [] h = tt
+rest-all P queue (a ∷ acts) h = by_first (is_of queue a) (rest-all P queue acts h.1)
+  where
+    by_first : (first : Bool) → AllByRecursion P (rest_of queue acts) → AllByRecursion P (cond first acts (a ∷ rest_of queue acts))
+    by_first true k = h.1
+    by_first false k = (h.0, k)
 
 -- a queue with acts is one of the drive's
-pub count-few : (queue : ℕ) (acts : List Act) → AllByRecursion (λ (a : Act). a.queue < 17) acts → 0 < count (is_of queue) acts → queue < 17
-count-few queue [] all h = absurd (omega arith)
-count-few queue (a ∷ acts) all h = go (is_of queue a) refl h (count-few queue acts all.1)
-  where
-    go : (b : Bool) → is_of queue a ≡ b → 0 < cond b (1 + count (is_of queue) acts) (count (is_of queue) acts) → (0 < count (is_of queue) acts → queue < 17) → queue < 17
-    go true e h k = let same : a.queue ≡ queue = grind (arith, nat_tests) in rw (← same) all.0
-    go false e h k = k h
+pub next-few : (queue : ℕ) (acts : List Act) → AllByRecursion (λ (a : Act). a.queue < 17) acts → HasNext queue acts → queue < 17
+next-few queue acts all has =
+    let small : has.act.queue < 17 = next-all (λ (a : Act). a.queue < 17) queue acts has.act all has.found in
+    let same : has.act.queue ≡ queue = eqb-true has.act.queue queue has.next.of_queue in
+    rw (← same) small
 
 -- acts of which no queue has any are none
-pub count-none : (acts : List Act) → ((k : ℕ) → count (is_of k) acts ≡ 0) → acts ≡ []
-count-none [] h = refl
-count-none (a ∷ acts) h =
-    let same : is_of a.queue a ≡ true = grind (arith, nat_tests) in
-    let none : cond true (1 + count (is_of a.queue) acts) (count (is_of a.queue) acts) ≡ 0 = ap (λ b. cond b (1 + count (is_of a.queue) acts) (count (is_of a.queue) acts)) (sym same) ∙ h a.queue in
-    absurd (omega arith)
+pub none-counted : (acts : List Act) → ((k : ℕ) → count_by (is_of k) acts ≡ 0) → acts ≡ []
+none-counted [] h = refl
+none-counted (a ∷ acts) h = let none : count_by (is_of a.queue) (a ∷ acts) ≡ 0 = h a.queue in absurd (omega (arith, none, mine-counts a acts))

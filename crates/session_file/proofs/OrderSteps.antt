@@ -1,7 +1,7 @@
 -- The queues of an order that are read one after the other.
 use Rattle.std.proofs.Common.{◌≡◌, ℕ, ◌+◌, ◌-◌, ◌*◌, ◌<◌, ◌≤◌, List, [], ◌∷◌, ◌++◌, length, None, Some, refl, sym, ap, ◌∙◌, arith}
 use Rattle.std.proofs.lemmas.List.{append-nil, length-set}
-use Rattle.std.specs.Prelude.{slice_index, slice_set}
+use Rattle.std.specs.Prelude.{slice_index, slice_set, count_by}
 use Rattle.std.specs.List.{AllByRecursion}
 use Rattle.zns_types.specs.Fields.{field}
 use Rattle.zns_types.specs.Rows.{first_holding}
@@ -9,8 +9,7 @@ use Rattle.zone_model.specs.declared.act.Act.{Act}
 use Rattle.zone_model.specs.Sessions.{is_of, rest_of}
 use Rattle.session_file.specs.declared.file_err.Reason.TheVariants as reason
 use Rattle.session_file.specs.declared.file_err.FileErr.TheVariants.{Bad}
-use Rattle.session_file.specs.Orders.{queues_from, order_rows}
-use Rattle.session_file.proofs.OrderLists.{count}
+use Rattle.session_file.specs.Orders.{AreCounts, queues_from, order_rows}
 use Rattle.session_file.proofs.OrderPlaces.{left_after, left_after-more, left_after-all, queues_from-more, order_rows-more, order_rows-broken, order_rows-all}
 use Rattle.session_file.proofs.OrderCounts.{counts-less, no_more}
 
@@ -19,9 +18,9 @@ pub record SoFar (i at : ℕ) (bytes : List ℕ) (acts : List Act) (queues left 
   pub read : queues ++ queues_from (length acts - i) (at + 2 * i) bytes ≡ queues_from (length acts) at bytes
   pub rows : first_holding (order_rows (length acts - i) bytes (at + 2 * i) (left_after i at bytes acts)) ≡ first_holding (order_rows (length acts) bytes at acts)
   pub long : length left ≡ 17
-  pub counts : (queue : ℕ) → queue < 17 → slice_index left queue ≡ count (is_of queue) (left_after i at bytes acts)
+  pub counts : AreCounts (left_after i at bytes acts) left
 
-pub so_far-none : (at : ℕ) (bytes : List ℕ) (acts : List Act) (left : List ℕ) → length left ≡ 17 → ((queue : ℕ) → queue < 17 → slice_index left queue ≡ count (is_of queue) acts) → SoFar 0 at bytes acts [] left
+pub so_far-none : (at : ℕ) (bytes : List ℕ) (acts : List Act) (left : List ℕ) → length left ≡ 17 → AreCounts acts left → SoFar 0 at bytes acts [] left
 so_far-none at bytes acts left long counts =
     let all : length acts - 0 ≡ length acts = omega arith in
     let start : at + 2 * 0 ≡ at = omega arith in
@@ -37,18 +36,18 @@ so_far-more i at bytes acts queues left queue s h e small some =
     let next : at + 2 * (i + 1) ≡ (at + 2 * i) + 2 = omega arith in
     let rest : List Act = left_after i at bytes acts in
     let after : left_after (i + 1) at bytes acts ≡ rest_of queue rest = left_after-more i at bytes acts ∙ ap (λ q. rest_of q rest) (sym e) in
-    let has : 0 < count (is_of (field (at + 2 * i) 2 bytes)) rest = rw (← e) (omega (arith, s.counts queue small)) in
+    let has : 0 < count_by (is_of (field (at + 2 * i) 2 bytes)) rest = rw (← e) (omega (arith, s.counts queue small)) in
     record {
       read = rw (e, next) (queues_from-more i (length acts) (at + 2 * i) bytes queues (queues_from (length acts) at bytes) h s.read);
       rows = rw (next, left_after-more i at bytes acts) (order_rows-more i (length acts) bytes (at + 2 * i) rest h has ∙ s.rows);
       long = length-set left queue (slice_index left queue - 1) ∙ s.long;
-      counts = λ q few. counts-less left rest queue small (omega (arith, s.long)) some s.counts q few ∙ ap (count (is_of q)) (sym after);
+      counts = λ q few. counts-less left rest queue small (omega (arith, s.long)) some s.counts q few ∙ ap (count_by (is_of q)) (sym after);
     }
 
 pub so_far-broken : (i at : ℕ) (bytes : List ℕ) (acts : List Act) (queues left : List ℕ) (queue : ℕ) → SoFar i at bytes acts queues left → AllByRecursion (λ (a : Act). a.queue < 17) acts → i < length acts → queue ≡ field (at + 2 * i) 2 bytes → (queue < 17 → slice_index left queue ≡ 0) → first_holding (order_rows (length acts) bytes at acts) ≡ Some (Bad reason.ResultOrder (at + 2 * i))
 so_far-broken i at bytes acts queues left queue s few h e none =
     let rest : List Act = left_after i at bytes acts in
-    let no : count (is_of (field (at + 2 * i) 2 bytes)) rest ≡ 0 = rw (← e) (no_more left rest queue none s.counts (left_after-all (λ (a : Act). a.queue < 17) i at bytes acts few)) in
+    let no : count_by (is_of (field (at + 2 * i) 2 bytes)) rest ≡ 0 = rw (← e) (no_more left rest queue none s.counts (left_after-all (λ (a : Act). a.queue < 17) i at bytes acts few)) in
     sym s.rows ∙ order_rows-broken i (length acts) bytes (at + 2 * i) rest h no
 
 pub so_far-all : (i at : ℕ) (bytes : List ℕ) (acts : List Act) (queues left : List ℕ) → SoFar i at bytes acts queues left → length acts ≤ i → (queues ≡ queues_from (length acts) at bytes) × (first_holding (order_rows (length acts) bytes at acts) ≡ None)

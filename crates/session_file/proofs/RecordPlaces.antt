@@ -70,13 +70,13 @@ act_at-record_bytes at bytes a rest q l e h =
     let len : length_at at bytes ≡ length a.payload =
     ap (little_number 4) (inner at 4 bytes whole start) ∙ little_number-reads_back 4 (length a.payload) (a.sqe.bytes ++ (a.payload ++ rest)) l in
     let entry : take 64 (drop (at + 8) bytes) ≡ a.sqe.bytes = ap (take 64) (inner at 8 bytes whole start) ∙ take_at a.sqe.bytes (a.payload ++ rest) 64 e in
-    let behind : drop (at + 72) bytes ≡ a.payload ++ rest = inner at 72 bytes whole start ∙ drop_at a.sqe.bytes (a.payload ++ rest) 64 e in
+    let later : drop (at + 72) bytes ≡ a.payload ++ rest = inner at 72 bytes whole start ∙ drop_at a.sqe.bytes (a.payload ++ rest) 64 e in
     let payload : take (length_at at bytes) (drop (at + 72) bytes) ≡ a.payload =
-    ap (take (length_at at bytes)) behind ∙ take_at a.payload rest (length_at at bytes) (sym len) in
+    ap (take (length_at at bytes)) later ∙ take_at a.payload rest (length_at at bytes) (sym len) in
     record {
       act = same_act (field at 2 bytes) (take 64 (drop (at + 8) bytes)) (take (length_at at bytes) (drop (at + 72) bytes)) a queue entry payload;
       len = len;
       zeros = zeros;
-      rest = inner (at + 72) (length_at at bytes) bytes (a.payload ++ rest) behind ∙ drop_at a.payload rest (length_at at bytes) (sym len);
-      within = omega (arith, len, ap length behind, length-drop (at + 72) bytes, length-append a.payload rest, ap length start, length-drop at bytes, length-append a.sqe.bytes (a.payload ++ rest));
+      rest = inner (at + 72) (length_at at bytes) bytes (a.payload ++ rest) later ∙ drop_at a.payload rest (length_at at bytes) (sym len);
+      within = omega (arith, len, ap length later, length-drop (at + 72) bytes, length-append a.payload rest, ap length start, length-drop at bytes, length-append a.sqe.bytes (a.payload ++ rest));
     }

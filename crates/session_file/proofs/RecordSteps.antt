@@ -22,7 +22,7 @@ acts_from-more i n at bytes acts whole h e =
 pub end_from-more : (i n at : ℕ) (bytes : List ℕ) (whole : ℕ) → i < n → end_from (n - i) at bytes ≡ whole → end_from (n - (i + 1)) (next_at at bytes) bytes ≡ whole
 end_from-more i n at bytes whole h e = ap (λ k. end_from k at bytes) (sym (left i n h)) ∙ e
 
--- the rules of a record and those of the records behind it
+-- the rules of a record and those of the records after it
 opened : (i n : ℕ) (g : GeometryFields) (bytes : List ℕ) (at sent asked : ℕ) → i < n → records_rows (n - i) g bytes at sent asked ≡ record_rows g bytes at sent asked ++ records_rows (n - (i + 1)) g bytes (next_at at bytes) (sent + length_at at bytes) (asked + reply_len g (command_of (act_at at bytes)))
 unfolding records_rows
 opened i n g bytes at sent asked h = ap (λ k. records_rows k g bytes at sent asked) (left i n h)

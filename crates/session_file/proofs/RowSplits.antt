@@ -1,4 +1,4 @@
--- Tables of rules that are put together, or whose answers are said otherwise.
+-- Tables of rules that are put together, or that give other answers.
 use Rattle.std.proofs.Common.{◌≡◌, Bool, true, false, cond, List, [], ◌∷◌, ◌++◌, map, Some, None, refl, ap}
 use Rattle.zns_types.specs.declared.field.GeomErr.{GeomErr}
 use Rattle.zns_types.specs.Rows.{Row, first_holding}

@@ -50,7 +50,7 @@ over_limit the_field.Queues number = Large which.Queues number
 over_limit the_field.Depth number = Large which.Depth number
 over_limit other number = Bad reason.Header (place_of other)
 
--- what is said of a header whose numbers break a rule on drives
+-- what is said of a header with numbers that break a rule on drives
 abbrev pub in_header : GeomErr → FileErr
 in_header e = if e.large then over_limit e.field e.number else Bad reason.Header (place_of e.field)
 
@@ -102,6 +102,6 @@ records_rows (suc n) g bytes at sent asked =
 unfoldable pub front_rows : List ℕ → List (Row FileErr)
 front_rows bytes = header_rows bytes ++ records_rows (count_in bytes) (geometry_in bytes) bytes 64 0 0
 
--- bytes that are a session, and nothing behind it
+-- bytes that are a session, and nothing after it
 unfoldable pub file_rows : List ℕ → List (Row FileErr)
 file_rows bytes = front_rows bytes ++ bad reason.Trailing (session_end bytes) (nat_lt (session_end bytes) (length bytes)) ∷ []

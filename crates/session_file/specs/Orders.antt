@@ -1,13 +1,17 @@
 -- The front of a result: eight bytes of text, the number of acts in four, and the queue of each act in two.
-use Rattle.std.specs.Prelude.{ℕ, zero, suc, ◌+◌, ◌*◌, not, ◌==◌, nat_lt, List, [], ◌∷◌, ◌++◌, length, take, drop, codes, is_some}
+use Rattle.std.specs.Prelude.{◌≡◌, ℕ, zero, suc, ◌+◌, ◌*◌, ◌<◌, not, ◌==◌, nat_lt, List, [], ◌∷◌, ◌++◌, length, take, drop, codes, is_some, slice_index, count_by}
 use Rattle.std.specs.Str.{bytes_eq}
 use Rattle.zns_types.specs.Fields.{field}
 use Rattle.zns_types.specs.Rows.{Row}
 use Rattle.zone_model.specs.declared.act.Act.{Act}
-use Rattle.zone_model.specs.Sessions.{next_of, rest_of}
+use Rattle.zone_model.specs.Sessions.{is_of, next_of, rest_of}
 use Rattle.session_file.specs.declared.file_err.Reason.TheVariants as reason
 use Rattle.session_file.specs.declared.file_err.FileErr.{FileErr}
 use Rattle.session_file.specs.FileRules.{bad}
+
+-- the numbers say how many acts each queue has
+abbrev pub AreCounts : List Act → List ℕ → Type 0
+AreCounts acts counts = (queue : ℕ) → queue < 17 → slice_index counts queue ≡ count_by (is_of queue) acts
 
 -- so many queues from an offset on
 abbrev pub queues_from : ℕ → ℕ → List ℕ → List ℕ

@@ -41,7 +41,7 @@ act_at at bytes = record {
   payload = take (length_at at bytes) (drop (at + 72) bytes);
 }
 
--- the offset behind the record at an offset
+-- the offset after the record at an offset
 abbrev pub next_at : ℕ → List ℕ → ℕ
 next_at at bytes = at + 72 + length_at at bytes
 
@@ -50,7 +50,7 @@ abbrev pub acts_from : ℕ → ℕ → List ℕ → List Act
 acts_from zero at bytes = []
 acts_from (suc n) at bytes = act_at at bytes ∷ acts_from n (next_at at bytes) bytes
 
--- the offset behind so many records from an offset on
+-- the offset after so many records from an offset on
 abbrev pub end_from : ℕ → ℕ → List ℕ → ℕ
 end_from zero at bytes = at
 end_from (suc n) at bytes = end_from n (next_at at bytes) bytes
@@ -59,6 +59,6 @@ end_from (suc n) at bytes = end_from n (next_at at bytes) bytes
 abbrev pub session_in : List ℕ → Recorded
 session_in bytes = record { geometry = geometry_in bytes; acts = acts_from (count_in bytes) 64 bytes }
 
--- the offset behind it
+-- the offset after it
 abbrev pub session_end : List ℕ → ℕ
 session_end bytes = end_from (count_in bytes) 64 bytes

@@ -86,6 +86,26 @@ pub enum Which {
     Replies,
 }
 
+impl fmt::Display for Which {
+    ghost use Rattle.std.specs.Prelude.{Some};
+    ghost use Rattle.session_file.specs.WhichTexts.{which_text};
+
+    ghost output = { λ w. Some (which_text w) };
+
+    fn fmt<W: fmt::Write>(&self, f: &mut fmt::Formatter<W>) -> fmt::Result {
+        f.write_str(match self {
+            Which::Input => "Input",
+            Which::Zones => "Zones",
+            Which::ZoneSize => "ZoneSize",
+            Which::Queues => "Queues",
+            Which::Depth => "Depth",
+            Which::Commands => "Commands",
+            Which::Sent => "Sent",
+            Which::Replies => "Replies",
+        })
+    }
+}
+
 /// Why bytes are no session, or no front of a result.
 #[derive(Clone, Copy, Debug, PartialEq, Eq, Error)]
 pub enum FileErr {

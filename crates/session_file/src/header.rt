@@ -1,7 +1,7 @@
 ghost use Rattle.std.specs.Prelude.{◌≡◌, ◌≤◌, IfOk, OnOk, IfErr, None, Some, length};
-ghost use Rattle.zns_types.specs.Rows.{first_holding};
 ghost use Rattle.session_file.specs.Places.{geometry_in, count_in};
 ghost use Rattle.session_file.specs.FileRules.{start_rows, end_rows, header_rows, in_header, over_limit, place_of};
+ghost use Rattle.session_file.specs.Faults.{NoneBroken, FirstBroken};
 
 use crate::fields::{u16_at, u32_at, u64_at};
 use crate::file_err::{FileErr, Reason, Which, bad, large};
@@ -78,9 +78,9 @@ impl From<GeomErr> for FileErr {
 // Whether there are 64 bytes that begin as a session does.
 #[tactic(auto, unfolding(crate::specs::FileRules::start_rows))]
 fn check_start(bytes: &[u8]) -> Result<(), FileErr>
-    ensures passed { OnOk result (first_holding (start_rows bytes.now) ≡ None) }
+    ensures passed { OnOk result (NoneBroken (start_rows bytes.now)) }
     ensures whole { OnOk result (64 ≤ length bytes.now) }
-    ensures broken { IfErr result (λ e. first_holding (start_rows bytes.now) ≡ Some e) }
+    ensures broken { IfErr result (FirstBroken (start_rows bytes.now)) }
 {
     if bytes.len() < HEADER_LEN {
         return Err(bad(Reason::Short, bytes.len()));
@@ -119,10 +119,10 @@ fn geometry_fields(bytes: &[u8]) -> GeometryFields
 #[tactic(auto, unfolding(crate::specs::FileRules::end_rows, crate::specs::Places::count_in))]
 fn check_end(bytes: &[u8]) -> Result<u32, FileErr>
     requires { 64 ≤ length bytes.now }
-    ensures passed { OnOk result (first_holding (end_rows bytes.now) ≡ None) }
+    ensures passed { OnOk result (NoneBroken (end_rows bytes.now)) }
     ensures commands { IfOk result (λ n. n ≡ count_in bytes.now) }
     ensures few { IfOk result (λ n. n ≤ 262144) }
-    ensures broken { IfErr result (λ e. first_holding (end_rows bytes.now) ≡ Some e) }
+    ensures broken { IfErr result (FirstBroken (end_rows bytes.now)) }
 {
     let commands = u32_at(bytes, 52);
     if commands > MOST_COMMANDS {
@@ -140,8 +140,8 @@ pub fn read_header(bytes: &[u8]) -> Result<Header, FileErr>
     ensures commands { IfOk result (λ h. h.commands ≡ count_in bytes.now) }
     ensures few { IfOk result (λ h. h.commands ≤ 262144) }
     ensures whole { OnOk result (64 ≤ length bytes.now) }
-    ensures passed { OnOk result (first_holding (header_rows bytes.now) ≡ None) }
-    ensures broken { IfErr result (λ e. first_holding (header_rows bytes.now) ≡ Some e) }
+    ensures passed { OnOk result (NoneBroken (header_rows bytes.now)) }
+    ensures broken { IfErr result (FirstBroken (header_rows bytes.now)) }
 {
     check_start(bytes)?;
     let geometry = Geometry::new(geometry_fields(bytes))?;

@@ -1,9 +1,8 @@
 ghost use Rattle.std.specs.Prelude.{◌≡◌, ℕ, ◌+◌, ◌*◌, ◌-◌, ◌<◌, ◌≤◌, ◌^◌, ◌↔◌, true, false, List, ◌++◌, take, drop, length, slice_index, slice_set, IsTrue, IfOk, OnOk, IfErr, MatchResult, None, Some, All, count_by, vec_len};
-ghost use Rattle.zns_types.specs.Rows.{first_holding};
 ghost use Rattle.zone_model.specs.declared.act.Act.{Act};
 ghost use Rattle.zone_model.specs.Sessions.{is_of, IsOrder, order_bytes};
-ghost use Rattle.session_file.specs.Orders.{queues_from, order_rows, order_front_rows, result_rows};
-ghost use Rattle.session_file.specs.Faults.{IsFirstOf};
+ghost use Rattle.session_file.specs.Orders.{AreCounts, queues_from, order_rows, order_front_rows, result_rows};
+ghost use Rattle.session_file.specs.Faults.{NoneBroken, FirstBroken, IsFirstOf, OutOfMemory};
 
 use crate::fields::{u16_at, u32_at};
 use crate::file_err::{FileErr, Reason, bad};
@@ -22,7 +21,7 @@ const FRONT_LEN: usize = 12;
 fn count_acts(acts: &Acts) -> [u32; 17]
     requires { All (λ (a : Act). a.queue < 17) acts.now.acts }
     ensures long { length result ≡ 17 }
-    ensures counts { (queue : ℕ) → queue < 17 → slice_index result queue ≡ count_by (is_of queue) acts.now.acts }
+    ensures counts { AreCounts acts.now.acts result }
 {
     let mut counts = [0; MOST_QUEUES];
     for number in 0..acts.len() {
@@ -35,7 +34,8 @@ fn count_acts(acts: &Acts) -> [u32; 17]
 fn take_one(left: &mut [u32; 17], queue: u16) -> bool
     ensures some { result ≡ true → (queue < 17) × (0 < slice_index left.old queue) }
     ensures none { result ≡ false → queue < 17 → slice_index left.old queue ≡ 0 }
-    ensures taken { result ≡ true → left.new ≡ slice_set left.old queue (slice_index left.old queue - 1) }
+    ensures taken { result ≡ true
+        → left.new ≡ slice_set left.old queue (slice_index left.old queue - 1) }
     ensures kept { result ≡ false → left.new ≡ left.old }
 {
     let queue = usize::from(queue);
@@ -50,9 +50,12 @@ fn take_one(left: &mut [u32; 17], queue: u16) -> bool
 fn read_queues(alloc: Global, bytes: &[u8], at: usize, acts: &Acts) -> Result<Vec<u16>, FileErr>
     requires within { at + 2 * length acts.now.acts ≤ length bytes.now }
     requires few { All (λ (a : Act). a.queue < 17) acts.now.acts }
-    ensures queues { IfOk result (λ v. v.items ≡ queues_from (length acts.now.acts) at bytes.now) }
-    ensures passed { OnOk result (first_holding (order_rows (length acts.now.acts) bytes.now at acts.now.acts) ≡ None) }
-    ensures broken { IfErr result (IsFirstOf (order_rows (length acts.now.acts) bytes.now at acts.now.acts)) }
+    ensures queues { IfOk result
+        (λ v. v.items ≡ queues_from (length acts.now.acts) at bytes.now) }
+    ensures passed { OnOk result
+        (NoneBroken (order_rows (length acts.now.acts) bytes.now at acts.now.acts)) }
+    ensures broken { IfErr result
+        (IsFirstOf (order_rows (length acts.now.acts) bytes.now at acts.now.acts)) }
 {
     let mut left = count_acts(acts);
     let mut queues = Vec::new(alloc);
@@ -73,8 +76,8 @@ fn check_front(bytes: &[u8], from: usize, acts: u32) -> Result<usize, FileErr>
     requires { from ≤ length bytes.now }
     ensures place { IfOk result (λ at. at ≡ from + 12) }
     ensures within { IfOk result (λ at. at + 2 * acts ≤ length bytes.now) }
-    ensures passed { OnOk result (first_holding (order_front_rows bytes.now from acts) ≡ None) }
-    ensures broken { IfErr result (λ e. first_holding (order_front_rows bytes.now from acts) ≡ Some e) }
+    ensures passed { OnOk result (NoneBroken (order_front_rows bytes.now from acts)) }
+    ensures broken { IfErr result (FirstBroken (order_front_rows bytes.now from acts)) }
 {
     let at = from + FRONT_LEN;
     if bytes.len() < at + 2 * acts as usize {
@@ -89,8 +92,8 @@ fn check_front(bytes: &[u8], from: usize, acts: u32) -> Result<usize, FileErr>
     Ok(at)
 }
 
-/// The order at the front of a result that begins at an offset. An error names the first rule that is
-/// broken.
+/// The order at the front of a result that begins at an offset. An error names the first rule that
+/// is broken.
 pub fn read_order(
     alloc: Global,
     bytes: &[u8],
@@ -99,9 +102,12 @@ pub fn read_order(
 ) -> Result<Order, FileErr>
     requires { from ≤ length bytes.now }
     ensures order { IfOk result (IsOrder session.now.acts) }
-    ensures spelled { IfOk result (λ order. take (12 + 2 * length order) (drop from bytes.now) ≡ order_bytes order) }
-    ensures complete { (order after : List ℕ) → IsOrder session.now.acts order → drop from bytes.now ≡ order_bytes order ++ after → MatchResult result (λ o. o ≡ order) (λ e. e ≡ FileErr.NoMemory) }
-    ensures passed { OnOk result (first_holding (result_rows bytes.now from session.now.acts) ≡ None) }
+    ensures spelled { IfOk result (λ order.
+        take (12 + 2 * length order) (drop from bytes.now) ≡ order_bytes order) }
+    ensures complete { (order after : List ℕ) → IsOrder session.now.acts order
+        → drop from bytes.now ≡ order_bytes order ++ after
+        → MatchResult result (λ o. o ≡ order) OutOfMemory }
+    ensures passed { OnOk result (NoneBroken (result_rows bytes.now from session.now.acts)) }
     ensures broken { IfErr result (IsFirstOf (result_rows bytes.now from session.now.acts)) }
 {
     let acts = session.acts();

@@ -1,9 +1,8 @@
 ghost use Rattle.std.specs.Prelude.{◌≡◌, ℕ, ◌+◌, ◌≤◌, List, ◌++◌, take, length, IfOk, OnOk, IfErr, MatchResult, None};
-ghost use Rattle.zns_types.specs.Rows.{first_holding};
 ghost use Rattle.zone_model.specs.Sessions.{Recorded, IsSession, spells, spelling};
 ghost use Rattle.session_file.specs.Places.{acts_from, end_from, session_end};
 ghost use Rattle.session_file.specs.FileRules.{records_rows, front_rows, file_rows};
-ghost use Rattle.session_file.specs.Faults.{IsFirstOf};
+ghost use Rattle.session_file.specs.Faults.{NoneBroken, IsFirstOf, OutOfMemory};
 
 use crate::file_err::{FileErr, Reason};
 use crate::header::{HEADER_LEN, read_header};
@@ -13,7 +12,7 @@ use std::alloc::Global;
 use zns_types::Geometry;
 use zone_model::Acts;
 
-// So many acts behind the header, and where the last of their records ends.
+// So many acts after the header, and where the last of their records ends.
 fn read_acts(
     alloc: Global,
     g: &Geometry,
@@ -24,8 +23,10 @@ fn read_acts(
     requires few { commands ≤ 262144 }
     ensures acts { IfOk result (λ r. r.0.acts ≡ acts_from commands 64 bytes.now) }
     ensures end { IfOk result (λ r. r.1 ≡ end_from commands 64 bytes.now) }
-    ensures passed { OnOk result (first_holding (records_rows commands g.now.fields bytes.now 64 0 0) ≡ None) }
-    ensures broken { IfErr result (IsFirstOf (records_rows commands g.now.fields bytes.now 64 0 0)) }
+    ensures passed { OnOk result
+        (NoneBroken (records_rows commands g.now.fields bytes.now 64 0 0)) }
+    ensures broken { IfErr result
+        (IsFirstOf (records_rows commands g.now.fields bytes.now 64 0 0)) }
 {
     let most = ((bytes.len() - HEADER_LEN) / RECORD_LEN).min(commands as usize);
     let mut acts = Acts::new(alloc, most as u32)?;
@@ -49,8 +50,10 @@ pub fn read_front(alloc: Global, bytes: &[u8]) -> Result<(Session, u64), FileErr
     ensures spelled { IfOk result (λ r. spells r.0 (take r.1 bytes.now)) }
     ensures within { IfOk result (λ r. r.1 ≤ length bytes.now) }
     ensures end { IfOk result (λ r. r.1 ≡ session_end bytes.now) }
-    ensures complete { (s : Recorded) (after : List ℕ) → IsSession s → bytes.now ≡ spelling s ++ after → MatchResult result (λ r. (r.0 ≡ s) × (r.1 ≡ length (spelling s))) (λ e. e ≡ FileErr.NoMemory) }
-    ensures passed { OnOk result (first_holding (front_rows bytes.now) ≡ None) }
+    ensures complete { (s : Recorded) (after : List ℕ) → IsSession s
+        → bytes.now ≡ spelling s ++ after
+        → MatchResult result (λ r. (r.0 ≡ s) × (r.1 ≡ length (spelling s))) OutOfMemory }
+    ensures passed { OnOk result (NoneBroken (front_rows bytes.now)) }
     ensures broken { IfErr result (IsFirstOf (front_rows bytes.now)) }
 {
     let header = read_header(bytes)?;
@@ -62,8 +65,9 @@ pub fn read_front(alloc: Global, bytes: &[u8]) -> Result<(Session, u64), FileErr
 pub fn read(alloc: Global, bytes: &[u8]) -> Result<Session, FileErr>
     ensures session { IfOk result IsSession }
     ensures spelled { IfOk result (λ s. spells s bytes.now) }
-    ensures complete { (s : Recorded) → IsSession s → spells s bytes.now → MatchResult result (λ r. r ≡ s) (λ e. e ≡ FileErr.NoMemory) }
-    ensures passed { OnOk result (first_holding (file_rows bytes.now) ≡ None) }
+    ensures complete { (s : Recorded) → IsSession s → spells s bytes.now
+        → MatchResult result (λ r. r ≡ s) OutOfMemory }
+    ensures passed { OnOk result (NoneBroken (file_rows bytes.now)) }
     ensures broken { IfErr result (IsFirstOf (file_rows bytes.now)) }
 {
     let (session, end) = read_front(alloc, bytes)?;

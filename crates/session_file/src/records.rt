@@ -1,9 +1,9 @@
 ghost use Rattle.std.specs.Prelude.{◌≡◌, ◌≤◌, ◌+◌, ◌^◌, ◌==◌, IfOk, OnOk, IfErr, None, Some, length, take, drop};
-ghost use Rattle.zns_types.specs.Rows.{first_holding};
 ghost use Rattle.sqe_codec.specs.Commands.{reply_len as reply_len_of};
 ghost use Rattle.zone_model.specs.Places.{command_of};
 ghost use Rattle.session_file.specs.Places.{length_at, act_at, next_at};
 ghost use Rattle.session_file.specs.FileRules.{record_rows};
+ghost use Rattle.session_file.specs.Faults.{NoneBroken, FirstBroken};
 
 use crate::fields::{sqe_at, u16_at, u32_at};
 use crate::file_err::{FileErr, Reason, Which, bad, large};
@@ -38,14 +38,18 @@ pub fn check_record(g: &Geometry, bytes: &[u8], before: Progress) -> Result<Prog
     requires within { before.at ≤ length bytes.now }
     requires sent { before.sent ≤ 2 ^ 27 }
     requires asked { before.asked ≤ 2 ^ 27 }
-    ensures passed { OnOk result (first_holding (record_rows g.now.fields bytes.now before.at before.sent before.asked) ≡ None) }
+    ensures passed { OnOk result
+        (NoneBroken (record_rows g.now.fields bytes.now before.at before.sent before.asked)) }
     ensures next { IfOk result (λ after. after.at ≡ next_at before.at bytes.now) }
     ensures within { IfOk result (λ after. after.at ≤ length bytes.now) }
-    ensures sent { IfOk result (λ after. after.sent ≡ before.sent + length_at before.at bytes.now) }
-    ensures asked { IfOk result (λ after. after.asked ≡ before.asked + reply_len_of g.now.fields (command_of (act_at before.at bytes.now))) }
+    ensures sent { IfOk result
+        (λ after. after.sent ≡ before.sent + length_at before.at bytes.now) }
+    ensures asked { IfOk result (λ after. after.asked
+        ≡ before.asked + reply_len_of g.now.fields (command_of (act_at before.at bytes.now))) }
     ensures few_sent { IfOk result (λ after. after.sent ≤ 2 ^ 27) }
     ensures few_asked { IfOk result (λ after. after.asked ≤ 2 ^ 27) }
-    ensures broken { IfErr result (λ e. first_holding (record_rows g.now.fields bytes.now before.at before.sent before.asked) ≡ Some e) }
+    ensures broken { IfErr result
+        (FirstBroken (record_rows g.now.fields bytes.now before.at before.sent before.asked)) }
 {
     let at = before.at;
     if bytes.len() < at + RECORD_LEN {

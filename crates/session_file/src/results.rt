@@ -13,7 +13,8 @@ use zone_model::{Journal, Replies, Reply};
 
 // The queues of the acts, in two bytes each.
 fn put_queues(file: &mut Vec<u8>, journal: &Journal) -> Result<(), NoMemory>
-    ensures { OnOk result (file.new.items ≡ file.old.items ++ flat_map (little_bytes 2) (own_order journal.now.acts)) }
+    ensures { OnOk result (file.new.items
+        ≡ file.old.items ++ flat_map (little_bytes 2) (own_order journal.now.acts)) }
 {
     for number in 0..journal.len() {
         put_u16(file, journal.queue(number))?;
@@ -23,7 +24,8 @@ fn put_queues(file: &mut Vec<u8>, journal: &Journal) -> Result<(), NoMemory>
 
 // The order in which the acts were served.
 fn put_order(file: &mut Vec<u8>, journal: &Journal) -> Result<(), NoMemory>
-    ensures { OnOk result (file.new.items ≡ file.old.items ++ order_bytes (own_order journal.now.acts)) }
+    ensures { OnOk result (file.new.items
+        ≡ file.old.items ++ order_bytes (own_order journal.now.acts)) }
 {
     file.extend_from_slice(b"ZNSR0001")?;
     put_u32(file, journal.len())?;
@@ -58,7 +60,8 @@ fn put_reply(file: &mut Vec<u8>, reply: &Reply) -> Result<(), NoMemory>
 // All replies, in order.
 fn put_replies(file: &mut Vec<u8>, replies: &Replies) -> Result<(), NoMemory>
     requires { All IsShort replies.now.replies }
-    ensures { OnOk result (file.new.items ≡ file.old.items ++ flat_map part_of replies.now.replies) }
+    ensures { OnOk result (file.new.items
+        ≡ file.old.items ++ flat_map part_of replies.now.replies) }
 {
     for number in 0..replies.len() {
         put_reply(file, replies.reply(number))?;
@@ -78,7 +81,8 @@ pub fn write_result(
 ) -> Result<Bytes, NoMemory>
     requires one_each { length replies.now.replies ≡ length journal.now.acts }
     requires short { All IsShort replies.now.replies }
-    ensures { IfOk result (λ b. b ≡ result_parts (own_order journal.now.acts) replies.now.replies descriptors.now page.now) }
+    ensures { IfOk result (λ b. b ≡ result_parts
+        (own_order journal.now.acts) replies.now.replies descriptors.now page.now) }
 {
     let mut file = Vec::new(alloc);
     put_order(&mut file, journal)?;

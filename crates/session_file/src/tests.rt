@@ -16,7 +16,7 @@ const HEADER: [u8; 64] = *b"ZNSQ0001\
 // A Write of one block at LBA 0 on queue 1, up to its host data.
 const RECORD: [u8; 16] = *b"\x01\x00\x00\x00\x00\x02\x00\x00\x01\x00\x01\x00\x01\x00\x00\x00";
 
-// The session of one Write, and one byte behind it.
+// The session of one Write, and one byte after it.
 fn one_write(alloc: Global) -> Result<Vec<u8>, Fail> {
     let mut file = Vec::new(alloc);
     file.extend_from_slice(&HEADER[..52])?;

@@ -1,8 +1,8 @@
-ghost use Rattle.std.specs.Prelude.{◌≡◌, ◌∷◌, [], ◌++◌, ◌<◌, ◌^◌, OnOk, IfOk, All, length, codes, replicate};
+ghost use Rattle.std.specs.Prelude.{◌≡◌, ◌++◌, ◌<◌, ◌^◌, OnOk, IfOk, All, length};
 ghost use Rattle.std.specs.List.{flat_map};
-ghost use Rattle.byteorder.specs.Endian.{little_bytes};
 ghost use Rattle.zone_model.specs.declared.act.Act.{Act};
 ghost use Rattle.zone_model.specs.Sessions.{header_bytes, record_bytes, spells};
+ghost use Rattle.session_file.specs.Headers.{start_bytes, zones_bytes, limits_bytes, windows_bytes};
 
 use crate::putting::{put_u16, put_u32, put_u64};
 use crate::session::Session;
@@ -13,7 +13,7 @@ use zone_model::{Act, Acts};
 
 // The start of a header: its text, and the numbers of one byte.
 fn put_start(file: &mut Vec<u8>, g: &GeometryFields) -> Result<(), NoMemory>
-    ensures { OnOk result (file.new.items ≡ file.old.items ++ (codes "ZNSQ0001" ++ (g.now.block_exp ∷ g.now.mdts ∷ g.now.zasl ∷ g.now.flags ∷ []))) }
+    ensures { OnOk result (file.new.items ≡ file.old.items ++ start_bytes g.now) }
 {
     file.extend_from_slice(b"ZNSQ0001")?;
     file.extend_from_slice(&[g.block_exp, g.mdts, g.zasl, g.flags])?;
@@ -22,7 +22,7 @@ fn put_start(file: &mut Vec<u8>, g: &GeometryFields) -> Result<(), NoMemory>
 
 // The number and the sizes of zones.
 fn put_zones(file: &mut Vec<u8>, g: &GeometryFields) -> Result<(), NoMemory>
-    ensures { OnOk result (file.new.items ≡ file.old.items ++ (little_bytes 4 g.now.zones ++ little_bytes 8 g.now.zone_size ++ little_bytes 8 g.now.capacity)) }
+    ensures { OnOk result (file.new.items ≡ file.old.items ++ zones_bytes g.now) }
 {
     put_u32(file, g.zones)?;
     put_u64(file, g.zone_size)?;
@@ -32,7 +32,7 @@ fn put_zones(file: &mut Vec<u8>, g: &GeometryFields) -> Result<(), NoMemory>
 
 // How many zones may be active, opened, and have a random write area.
 fn put_limits(file: &mut Vec<u8>, g: &GeometryFields) -> Result<(), NoMemory>
-    ensures { OnOk result (file.new.items ≡ file.old.items ++ (little_bytes 4 g.now.active_limit ++ little_bytes 4 g.now.open_limit ++ little_bytes 4 g.now.windows)) }
+    ensures { OnOk result (file.new.items ≡ file.old.items ++ limits_bytes g.now) }
 {
     put_u32(file, g.active_limit)?;
     put_u32(file, g.open_limit)?;
@@ -42,7 +42,7 @@ fn put_limits(file: &mut Vec<u8>, g: &GeometryFields) -> Result<(), NoMemory>
 
 // The sizes of random write areas, and the queues.
 fn put_windows(file: &mut Vec<u8>, g: &GeometryFields) -> Result<(), NoMemory>
-    ensures { OnOk result (file.new.items ≡ file.old.items ++ (little_bytes 2 g.now.granule ++ little_bytes 2 g.now.window ++ little_bytes 2 g.now.queues ++ little_bytes 2 g.now.depth)) }
+    ensures { OnOk result (file.new.items ≡ file.old.items ++ windows_bytes g.now) }
 {
     put_u16(file, g.granule)?;
     put_u16(file, g.window)?;
@@ -81,7 +81,8 @@ fn put_act(file: &mut Vec<u8>, act: &Act) -> Result<(), NoMemory>
 // The records of acts, in order.
 fn put_acts(file: &mut Vec<u8>, acts: &Acts) -> Result<(), NoMemory>
     requires { All (λ (a : Act). length a.payload < 2 ^ 32) acts.now.acts }
-    ensures { OnOk result (file.new.items ≡ file.old.items ++ flat_map record_bytes acts.now.acts) }
+    ensures { OnOk result (file.new.items
+        ≡ file.old.items ++ flat_map record_bytes acts.now.acts) }
 {
     for number in 0..acts.len() {
         put_act(file, acts.act(number))?;

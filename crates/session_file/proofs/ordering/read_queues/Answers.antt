@@ -1,14 +1,12 @@
-use Rattle.std.proofs.Common.{◌<◌, arith, sym, ◌∙◌}
+use Rattle.std.proofs.Common.{◌<◌, arith}
 use Rattle.std.proofs.lemmas.List.Elements.{recursion_from_All}
 use Rattle.zone_model.specs.declared.act.Act.{Act}
-use Rattle.zone_model.specs.Sessions.{is_of}
-use Rattle.session_file.proofs.OrderLists.{count-is}
 use Rattle.session_file.proofs.OrderSteps.{so_far-none, so_far-more, so_far-broken, so_far-all}
 use Rattle.session_file.proofs.ordering.read_queues.Goals as goal
 
 pub loop-number-init : goal.loop-number-init
 loop-number-init c =
-    rw c.new-queues.ensures.items (so_far-none c.args.at c.args.bytes.now c.args.acts.now.acts c.count_acts-left.result c.count_acts-left.ensures.long (λ queue h. c.count_acts-left.ensures.counts queue h ∙ sym (count-is (is_of queue) c.args.acts.now.acts)))
+    rw c.new-queues.ensures.items (so_far-none c.args.at c.args.bytes.now c.args.acts.now.acts c.count_acts-left.result c.count_acts-left.ensures.long c.count_acts-left.ensures.counts)
 
 pub loop-number-preserved : goal.loop-number-preserved
 loop-number-preserved c =
