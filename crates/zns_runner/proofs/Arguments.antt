@@ -8,10 +8,10 @@ use Rattle.std.specs.declared.option.Option.TheVariants.{Some, None}
 use Rattle.std.specs.declared.vec.IntoIter.{IntoIter}
 
 -- a list of so many elements without its first one, which was taken where there was one
-pub behind_first : {X : Type 0} (first : Option X) (all rest : List X) (count : ℕ) → all ≡ option_to_list first ++ rest → count ≡ length all → (IsSome first ↔ (0 < count)) → drop 1 all ≡ rest
-behind_first None [] rest count e len some = e
-behind_first None (x ∷ xs) rest count e len some = grind (arith, e, len, some)
-behind_first (Some x) all rest count e len some = ap (drop 1) e
+pub without_first : {X : Type 0} (first : Option X) (all rest : List X) (count : ℕ) → all ≡ option_to_list first ++ rest → count ≡ length all → (IsSome first ↔ (0 < count)) → drop 1 all ≡ rest
+without_first None [] rest count e len some = e
+without_first None (x ∷ xs) rest count e len some = grind (arith, e, len, some)
+without_first (Some x) all rest count e len some = ap (drop 1) e
 
 -- an iterator gave all of its elements once none is left
 pub all_given : {X A : Type 0} (from : IntoIter X A) (given : List X) (now : IntoIter X A) → Yields into_iter_steps from given now → length (into_iter_items now) ≡ 0 → into_iter_items from ≡ given

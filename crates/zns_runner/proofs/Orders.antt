@@ -1,22 +1,33 @@
 -- The order of the file, and what is written of acts one after the other.
-use Rattle.std.proofs.Common.{◌≡◌, ℕ, List, [], ◌∷◌, ◌++◌, refl, sym, ap, ◌∙◌}
+use Rattle.std.proofs.Common.{◌≡◌, ℕ, ◌+◌, List, [], ◌∷◌, ◌++◌, refl, sym, ap, ◌∙◌}
+use Rattle.std.specs.Prelude.{◌==◌}
 use Rattle.std.proofs.lemmas.Bool.{eq-eqb}
 use Rattle.std.proofs.lemmas.List.{append_assoc, append-nil}
+use Rattle.drive_rules.specs.Shown.{one}
 use Rattle.zns_types.specs.declared.fields.GeometryFields.{GeometryFields}
 use Rattle.zone_model.specs.declared.act.Act.{Act}
 use Rattle.zone_model.specs.Places.{Place}
 use Rattle.zone_model.specs.Answers.{answered, answered_back, and_then}
 use Rattle.zone_model.specs.Entries.{posted}
 use Rattle.zone_model.specs.Replies.{reply_bytes}
-use Rattle.zone_model.specs.Sessions.{merged, own_order, reply_part, replies_bytes}
+use Rattle.zone_model.specs.Sessions.{is_of, IsOrder, merged, own_order, reply_part, replies_bytes}
 use Rattle.zone_model.proofs.Histories.{answered-push}
+use Rattle.zone_model.proofs.Merging.{count-cons}
+
+-- the order of the file is an order of the acts
+pub own_order-is_order : (acts : List Act) → IsOrder acts (own_order acts)
+own_order-is_order [] queue = refl
+own_order-is_order (a ∷ acts) queue =
+    count-cons (λ q. q == queue) a.queue (own_order acts)
+    ∙ ap (λ (n : ℕ). one (is_of queue a) + n) (own_order-is_order acts queue)
+    ∙ sym (count-cons (is_of queue) a acts)
 
 -- the acts in the order of the file are the acts
 pub merged-own_order : (acts : List Act) → merged acts (own_order acts) ≡ acts
 merged-own_order [] = refl
 merged-own_order (a ∷ acts) = rw (eq-eqb a.queue a.queue refl) (ap (λ (more : List Act). a ∷ more) (merged-own_order acts))
 
--- what is written of one act behind a history
+-- what is written of one act after a history
 abbrev pub act_bytes : GeometryFields → List Place → Act → List ℕ
 act_bytes g h a = reply_part (posted g h a) (reply_bytes g h a)
 

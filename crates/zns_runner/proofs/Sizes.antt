@@ -1,14 +1,11 @@
 -- A session is never longer than the greatest input.
-use Rattle.std.proofs.Common.{◌≡◌, ℕ, suc, ◌+◌, ◌*◌, ◌^◌, ◌≤◌, List, [], ◌∷◌, ◌++◌, length, Option, Some, None, refl, ap, ◌∙◌, arith, length-append}
-use Rattle.std.specs.Prelude.{All, Err}
+use Rattle.std.proofs.Common.{◌≡◌, ℕ, suc, ◌+◌, ◌*◌, ◌^◌, ◌≤◌, List, [], ◌∷◌, ◌++◌, length, refl, ◌∙◌, arith, length-append}
+use Rattle.std.specs.Prelude.{All}
 use Rattle.std.specs.List.{flat_map}
 use Rattle.byteorder.specs.Endian.{little_bytes}
 use Rattle.zns_types.specs.declared.fields.GeometryFields.{GeometryFields}
-use Rattle.zns_io.specs.declared.read_err.ReadErr.TheVariants as errors
-use Rattle.zns_io.specs.Reading.{IsByLimit}
 use Rattle.zone_model.specs.declared.act.Act.{Act}
 use Rattle.zone_model.specs.Sessions.{Recorded, IsSession, IsAct, spelling, record_bytes, header_bytes, sent_bytes}
-use Rattle.zns_runner.specs.Outcomes.{IsNoSession}
 
 header_size : (g : GeometryFields) (n : ℕ) → length (header_bytes g n) ≡ 64
 header_size g n = refl
@@ -28,12 +25,8 @@ records_size g (a ∷ acts) all =
     let rest = records_size g acts (λ k d lt. all (suc k) d (omega arith)) in
     length-append (record_bytes a) (flat_map record_bytes acts) ∙ omega (arith, record_size g a own, rest)
 
-spelled_size : (s : Recorded) → IsSession s → length (spelling s) ≤ 2 ^ 29
+-- what spells a session
+pub spelled_size : (s : Recorded) → IsSession s → length (spelling s) ≤ 2 ^ 29
 unfolding spelling
 spelled_size s is =
     omega (arith, length-append (header_bytes s.geometry (length s.acts)) (flat_map record_bytes s.acts), header_size s.geometry (length s.acts), records_size s.geometry s.acts is.acts, is.count, is.sent)
-
--- what is longer is no session
-pub too_long : (left : Option (List ℕ)) → IsByLimit left (2 ^ 29) (Err errors.Over) → IsNoSession left
-too_long None over = tt
-too_long (Some told) over = λ s built e. absurd (omega (arith, spelled_size s built.session, ap length e))

@@ -1,5 +1,12 @@
+pub mod Texts
+pub mod Showing
+pub mod Summaries
+pub mod Generating
+pub mod Scripts
 pub mod Sessions
 pub mod Serving
+pub mod Tasks
+pub mod Inputs
 pub mod Outcomes
 pub mod Making
 pub mod Numbers

@@ -10,3 +10,4 @@ number_of status.Usage = 2
 number_of status.ReadFault = 3
 number_of status.WriteFault = 4
 number_of (status.BadFile what offset) = 5
+number_of (status.TooLarge what number) = 6

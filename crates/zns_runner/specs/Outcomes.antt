@@ -1,15 +1,18 @@
 -- What each status of the program means.
-use Rattle.std.specs.Prelude.{◌≡◌, ℕ, ◌+◌, ◌^◌, List, Option, Some, None, ⊤, ◌⊎◌}
-use Rattle.zone_model.specs.Sessions.{Recorded, spelling, spells, merge, own_order}
+use Rattle.std.specs.Prelude.{◌≡◌, ℕ, ◌+◌, ◌^◌, List, Option, Some, ◌⊎◌}
+use Rattle.zone_model.specs.Sessions.{Recorded, spelling, merge, own_order}
 use Rattle.zone_model.specs.Laws.{IsKept}
 use Rattle.zns_io.specs.Faults.{Rose}
 use Rattle.zns_io.specs.Told.{Gains}
 use Rattle.zns_io.specs.Reading.{ReadsAll, ReadsFrontUpTo}
 use Rattle.zns_io.specs.Writing.{GainsPrefix}
-use Rattle.session_file.specs.declared.file_err.Reason.TheVariants as reason
+use Rattle.session_file.specs.declared.file_err.FileErr.{FileErr}
+use Rattle.session_file.specs.declared.file_err.FileErr.TheVariants.{Bad, Large}
 use Rattle.zns_runner.specs.declared.status.Status.{Status}
 use Rattle.zns_runner.specs.declared.status.Status.TheVariants as status
-use Rattle.zns_runner.specs.Sessions.{IsBuilt, output, one_word}
+use Rattle.zns_runner.specs.declared.task.Task.{Task}
+use Rattle.zns_runner.specs.Tasks.{words_for, Takes, IsOutputFor}
+use Rattle.zns_runner.specs.Inputs.{IsTaken, IsRefusal, IsRefusalOf}
 
 -- what the source and the sink tell at one moment: the bytes still to come, the bytes taken, and how many calls failed
 pub record Streams : Type 0 where
@@ -18,27 +21,33 @@ pub record Streams : Type 0 where
   pub source_faults : ℕ
   pub sink_faults : ℕ
 
--- a session was read whole, and its result was written whole; in the order that the result names, the limits hold,
--- pointers move as they may, and committed blocks stay
-pub record Serves (before now : Streams) : Type 0 where
+abbrev pub moment : Option (List ℕ) → Option (List ℕ) → ℕ → ℕ → Streams
+moment left taken source_faults sink_faults = record { left = left; taken = taken; source_faults = source_faults; sink_faults = sink_faults }
+
+-- a session was read whole, and what the words ask for was written whole; in the order of its file the session's acts
+-- keep the limits, move pointers as they may, and leave committed blocks
+pub record Finishes (words : List (List ℕ)) (before now : Streams) : Type 0 where
+  pub task : Task
+  pub asked : words ≡ words_for task
   pub session : Recorded
-  pub built : IsBuilt session
+  pub takes : Takes task session
   pub read : ReadsAll before.left now.left (spelling session)
-  pub written : Gains before.taken now.taken (output session)
+  pub output : List ℕ
+  pub made : IsOutputFor task session output
+  pub written : Gains before.taken now.taken output
   pub kept : IsKept session.geometry (merge session (own_order session.acts))
 
--- a session was read whole, its result was not written whole, and a write failed
-pub record StopsWriting (before now : Streams) : Type 0 where
+-- a session was read whole, what the words ask for was not written whole, and a write failed
+pub record StopsWriting (words : List (List ℕ)) (before now : Streams) : Type 0 where
+  pub task : Task
+  pub asked : words ≡ words_for task
   pub session : Recorded
-  pub built : IsBuilt session
+  pub takes : Takes task session
   pub read : ReadsAll before.left now.left (spelling session)
-  pub written : GainsPrefix before.taken now.taken (output session)
+  pub output : List ℕ
+  pub made : IsOutputFor task session output
+  pub written : GainsPrefix before.taken now.taken output
   pub fault : Rose before.sink_faults now.sink_faults
-
--- told bytes are not the spelling of a session that is served
-abbrev pub IsNoSession : Option (List ℕ) → Type 0
-IsNoSession None = ⊤
-IsNoSession (Some bytes) = (s : Recorded) → IsBuilt s → spells s bytes → ⊥
 
 -- nothing was asked of the sink, and the source lost at most a front, of one byte more than the longest input
 pub record WritesNothing (before now : Streams) : Type 0 where
@@ -46,17 +55,35 @@ pub record WritesNothing (before now : Streams) : Type 0 where
   pub calm : now.sink_faults ≡ before.sink_faults
   pub read : ReadsFrontUpTo before.left now.left (2 ^ 29 + 1)
 
--- What a status says of a run, by what the source and the sink told before and tell now.
-abbrev pub Means : Streams → Streams → Status → Type 0
-Means before now status.Ok = Serves before now
-Means before now status.NoMemory = WritesNothing before now
-Means before now status.Usage = now ≡ before
-Means before now status.ReadFault = WritesNothing before now × Rose before.source_faults now.source_faults
-Means before now status.WriteFault = StopsWriting before now
-Means before now (status.BadFile what offset) = WritesNothing before now × (what ≡ reason.NotBuilt) × (offset ≡ 0) × IsNoSession before.left
+-- the input was refused, and nothing was written
+pub record Refuses (words : List (List ℕ)) (before now : Streams) (e : FileErr) : Type 0 where
+  pub task : Task
+  pub asked : words ≡ words_for task
+  pub refusal : IsRefusalOf task before.left e
+  pub nothing : WritesNothing before now
 
--- Where a session that is served is asked for, and neither count rises, the answer is Ok, unless memory is wanting.
+-- What a status says of a run, by its words and by what the source and the sink told before and tell now.
+abbrev pub Means : List (List ℕ) → Streams → Streams → Status → Type 0
+Means words before now status.Ok = Finishes words before now
+Means words before now status.NoMemory = WritesNothing before now
+Means words before now status.Usage = now ≡ before
+Means words before now status.ReadFault = WritesNothing before now × Rose before.source_faults now.source_faults
+Means words before now status.WriteFault = StopsWriting words before now
+Means words before now (status.BadFile reason offset) = Refuses words before now (Bad reason offset)
+Means words before now (status.TooLarge which number) = Refuses words before now (Large which number)
+
+-- The answer that an input calls for: Ok where the task takes it, else its refusal.
+abbrev pub CallsFor : Task → List ℕ → Status → Type 0
+CallsFor t bytes status.Ok = IsTaken t bytes
+CallsFor t bytes status.NoMemory = ⊥
+CallsFor t bytes status.Usage = ⊥
+CallsFor t bytes status.ReadFault = ⊥
+CallsFor t bytes status.WriteFault = ⊥
+CallsFor t bytes (status.BadFile reason offset) = IsRefusal t bytes (Bad reason offset)
+CallsFor t bytes (status.TooLarge which number) = IsRefusal t bytes (Large which number)
+
+-- Where neither count rises, the answer is the one that the input calls for, unless memory runs out.
 abbrev pub IsComplete : List (List ℕ) → Streams → Streams → Status → Type 0
-IsComplete words before now result = words ≡ one_word → (s : Recorded) → IsBuilt s → before.left ≡ Some (spelling s)
+IsComplete words before now result = (t : Task) (bytes : List ℕ) (answer : Status) → words ≡ words_for t → before.left ≡ Some bytes → CallsFor t bytes answer
     → ¬ (Rose before.source_faults now.source_faults) → ¬ (Rose before.sink_faults now.sink_faults)
-    → (result ≡ status.Ok) ⊎ (result ≡ status.NoMemory)
+    → (result ≡ answer) ⊎ (result ≡ status.NoMemory)

@@ -10,7 +10,7 @@ use Rattle.zone_model.specs.Replies.{reply_bytes}
 use Rattle.zone_model.specs.Sessions.{replies_bytes}
 use Rattle.session_file.specs.Results.{IsShort, part_of}
 
--- the entries and the bytes that an act is answered behind a history
+-- the entries and the bytes that an act is answered after a history
 pub record IsReply (g : GeometryFields) (h : List Place) (a : Act) (r : Reply) : Type 0 where
   pub entries : r.entries.items ≡ posted g h a
   pub read : r.read ≡ reply_bytes g h a

@@ -1,10 +1,10 @@
--- The sessions that `one` serves, and what it writes.
-use Rattle.std.specs.Prelude.{◌≡◌, ℕ, ◌≤◌, Bool, true, false, List, [], ◌∷◌, All, codes}
+-- The sessions that are served so far, and what serving one gives.
+use Rattle.std.specs.Prelude.{◌≡◌, ℕ, ◌≤◌, Bool, true, false, List, All}
 use Rattle.sqe_codec.specs.declared.cmd.Cmd.{Cmd}
 use Rattle.sqe_codec.specs.declared.cmd.Cmd.TheVariants as cmd
 use Rattle.zone_model.specs.declared.act.Act.{Act}
 use Rattle.zone_model.specs.Places.{command_of}
-use Rattle.zone_model.specs.Sessions.{Recorded, IsSession, result_of, own_order}
+use Rattle.zone_model.specs.Sessions.{Recorded, IsSession, IsResult, own_order}
 use Rattle.zns_types.specs.declared.fields.GeometryFields.{GeometryFields}
 
 -- a Write, a Read, or an opcode that isn't listed for the queue
@@ -31,10 +31,6 @@ pub record IsBuilt (s : Recorded) : Type 0 where
   pub unlimited : IsUnlimited s.geometry
   pub acts : All IsBuiltAct s.acts
 
--- the words by which the program is asked for this
-abbrev pub one_word : List (List ℕ)
-one_word = codes "one" ∷ []
-
--- the result of the session in the order of its file
-abbrev pub output : Recorded → List ℕ
-output s = result_of s (own_order s.acts)
+-- the bytes are the result of the session in the order of its file
+abbrev pub IsOwnResult : Recorded → List ℕ → Type 0
+IsOwnResult s bytes = IsResult s (own_order s.acts) bytes

@@ -9,14 +9,14 @@ use Rattle.std.specs.declared.io.ErrorKind.TheVariants as kind
 use Rattle.std.specs.declared.string.String.{String}
 use Rattle.zns_io.specs.declared.no_memory.NoMemory.{NoMemory}
 
--- the texts behind the first one, which is the program's name
-abbrev pub behind_name : {Z : Type 0} → IntoIter (String Z) Z → List (List ℕ)
-behind_name args = map string_bytes (drop 1 (into_iter_items args))
+-- the texts after the first one, which is the program's name
+abbrev pub after_name : {Z : Type 0} → IntoIter (String Z) Z → List (List ℕ)
+after_name args = map string_bytes (drop 1 (into_iter_items args))
 
--- Arguments that are texts give the words behind the name, unless memory is wanting. Where there is an error in their
--- place, the program wants memory exactly where that error does, and else has no words.
+-- Arguments that are texts give the words after the name, unless memory runs out. Where there is an error in their
+-- place, the program is out of memory exactly where that error is, and else has no words.
 abbrev pub AreWordsOf : {Z : Type 0} → Result (IntoIter (String Z) Z) Error → Result (Vec (List ℕ) Z) NoMemory → Type 0
-AreWordsOf (Ok args) (Ok words) = words.items ≡ behind_name args
+AreWordsOf (Ok args) (Ok words) = words.items ≡ after_name args
 AreWordsOf (Ok args) (Err _) = ⊤
 AreWordsOf (Err error) (Ok words) = (error_kind error ≢ kind.OutOfMemory) × (words.items ≡ [])
 AreWordsOf (Err error) (Err _) = error_kind error ≡ kind.OutOfMemory

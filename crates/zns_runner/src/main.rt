@@ -1,9 +1,12 @@
-//! The program: a session from standard input is served, and its result goes to standard output.
+//! The program: a session from standard input is served, and its result goes to standard output; or
+//! the session is shown there as text.
 #![tactic(auto)]
 
 mod built;
 mod serving;
+mod showing;
 mod status;
+mod task;
 #[cfg(test)]
 mod tests;
 mod top;
@@ -18,7 +21,7 @@ use std::io::Write;
 use std::process::ExitCode;
 use zns_io::{StdSink, StdSource};
 
-// Serves what the words ask for, and flushes what was written.
+// Does what the words ask for, and flushes what was written.
 fn run(rt: &(impl Env + AllocGlobal + Input + Print)) -> Status {
     let words = match words::words(rt) {
         Ok(words) => words,

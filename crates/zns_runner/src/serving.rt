@@ -1,10 +1,9 @@
 ghost use Rattle.std.specs.Prelude.{◌≡◌, ◌+◌, ◌*◌, ◌≤◌, ◌<◌, IfOk, OnOk, [], ◌∷◌, ◌++◌, All, length};
-ghost use Rattle.zone_model.specs.Answers.{answered};
-ghost use Rattle.zone_model.specs.Notices.{changed};
 ghost use Rattle.zone_model.specs.Replies.{descriptors};
-ghost use Rattle.zone_model.specs.Reports.{bytes_of_all, changed_page};
+ghost use Rattle.drive_rules.specs.Reports.{bytes_of_all, changed_page};
 ghost use Rattle.zone_model.specs.Sessions.{IsAct, own_order, result_bytes};
-ghost use Rattle.zns_runner.specs.Sessions.{IsBuilt, IsBuiltAct, output};
+ghost use Rattle.solo_drive.specs.Drives.{history, changed_zones};
+ghost use Rattle.zns_runner.specs.Sessions.{IsBuilt, IsBuiltAct, IsOwnResult};
 ghost use Rattle.zns_runner.specs.Serving.{IsReply, AreReplies};
 
 use session_file::{Session, write_result};
@@ -22,7 +21,7 @@ fn serve_act(alloc: Global, drive: &mut Solo, act: Act) -> Result<Reply, NoMemor
     ensures acts { OnOk result (drive.new.acts ≡ drive.old.acts ++ act ∷ []) }
     ensures spare { OnOk result (drive.new.spare + 1 ≡ drive.old.spare) }
     ensures geometry { drive.new.geometry ≡ drive.old.geometry }
-    ensures reply { IfOk result (IsReply drive.old.geometry (answered drive.old.geometry drive.old.acts) act) }
+    ensures reply { IfOk result (IsReply drive.old.geometry (history drive.old) act) }
 {
     let Act {
         queue,
@@ -59,7 +58,8 @@ fn serve_acts(alloc: Global, drive: &mut Solo, acts: Vec<Act>) -> Result<Replies
 
 // The descriptors of all zones of a drive.
 fn descriptors_of(alloc: Global, drive: &Solo) -> Result<Vec<u8>, NoMemory>
-    ensures { IfOk result (λ v. v.items ≡ bytes_of_all (descriptors drive.now.geometry (answered drive.now.geometry drive.now.acts))) }
+    ensures { IfOk result
+        (λ v. v.items ≡ bytes_of_all (descriptors drive.now.geometry (history drive.now))) }
 {
     let zones = drive.geometry().fields().zones as usize;
     let mut out = vec![in alloc; 0; 64 * zones]?;
@@ -69,7 +69,8 @@ fn descriptors_of(alloc: Global, drive: &Solo) -> Result<Vec<u8>, NoMemory>
 
 // The page of a drive's changed zones.
 fn page_of(alloc: Global, drive: &Solo) -> Result<Vec<u8>, NoMemory>
-    ensures { IfOk result (λ v. v.items ≡ changed_page drive.now.geometry (changed drive.now.geometry (answered drive.now.geometry drive.now.acts))) }
+    ensures { IfOk result
+        (λ v. v.items ≡ changed_page drive.now.geometry (changed_zones drive.now)) }
 {
     let mut out = vec![in alloc; 0; 4096]?;
     drive.page(&mut out);
@@ -79,7 +80,8 @@ fn page_of(alloc: Global, drive: &Solo) -> Result<Vec<u8>, NoMemory>
 // The result file of a drive that served acts, by the replies to them.
 fn result_of(alloc: Global, drive: &Solo, replies: &Replies) -> Result<Bytes, NoMemory>
     requires { AreReplies drive.now.geometry drive.now.acts replies.now.replies }
-    ensures { IfOk result (λ b. b ≡ result_bytes drive.now.geometry (own_order drive.now.acts) drive.now.acts) }
+    ensures { IfOk result
+        (λ b. b ≡ result_bytes drive.now.geometry (own_order drive.now.acts) drive.now.acts) }
 {
     let descriptors = descriptors_of(alloc, drive)?;
     let page = page_of(alloc, drive)?;
@@ -89,7 +91,7 @@ fn result_of(alloc: Global, drive: &Solo, replies: &Replies) -> Result<Bytes, No
 /// What a session gives in the order of its file: the whole result file.
 pub fn serve(alloc: Global, session: Session) -> Result<Bytes, NoMemory>
     requires { IsBuilt session }
-    ensures { IfOk result (λ b. b ≡ output session) }
+    ensures { IfOk result (IsOwnResult session) }
 {
     let (geometry, acts) = session.into_parts();
     let mut drive = Solo::new(alloc, geometry, acts.len())?;

@@ -2,7 +2,7 @@ ghost use Rattle.std.specs.Prelude.{◌≡◌, IfOk};
 ghost use Rattle.zns_runner.specs.Numbers.{number_of};
 ghost use Rattle.zns_runner.specs.Lines.{line_of};
 
-use session_file::Reason;
+use session_file::{FileErr, Reason, Which};
 use std::alloc::Global;
 use std::fmt;
 use zns_io::{Bytes, NoMemory};
@@ -13,7 +13,7 @@ pub enum Status {
     /// The whole output was written.
     Ok,
 
-    /// Memory is wanting.
+    /// Memory ran out.
     NoMemory,
 
     /// The words mean nothing.
@@ -27,6 +27,9 @@ pub enum Status {
 
     /// The input is not what the words ask for, at an offset from its first byte.
     BadFile { reason: Reason, offset: u64 },
+
+    /// A number of the input, or its length, is over its limit.
+    TooLarge { which: Which, number: u64 },
 }
 
 impl From<NoMemory> for Status {
@@ -37,6 +40,21 @@ impl From<NoMemory> for Status {
 
     fn from(_error: NoMemory) -> Status {
         Status::NoMemory
+    }
+}
+
+impl From<FileErr> for Status {
+    ghost use Rattle.std.specs.Prelude.{◌≡◌};
+    ghost use Rattle.zns_runner.specs.Making.{status_of};
+
+    ghost from_gives = { λ e s. s ≡ status_of e };
+
+    fn from(error: FileErr) -> Status {
+        match error {
+            FileErr::NoMemory => Status::NoMemory,
+            FileErr::Bad { reason, offset } => Status::BadFile { reason, offset },
+            FileErr::Large { which, number } => Status::TooLarge { which, number },
+        }
     }
 }
 
@@ -52,6 +70,7 @@ impl Status {
             Status::ReadFault => 3,
             Status::WriteFault => 4,
             Status::BadFile { .. } => 5,
+            Status::TooLarge { .. } => 6,
         }
     }
 
@@ -74,16 +93,14 @@ impl fmt::Display for Status {
         match self {
             Status::Ok => Ok(()),
             Status::NoMemory => writeln!(f, "zns_runner: no memory"),
-            Status::Usage => {
-                writeln!(
-                    f,
-                    "zns_runner: usage: one, run, check, show, host, gen NUMBER COUNT"
-                )
-            }
+            Status::Usage => writeln!(f, "zns_runner: usage: one, show"),
             Status::ReadFault => writeln!(f, "zns_runner: read fault"),
             Status::WriteFault => writeln!(f, "zns_runner: write fault"),
             Status::BadFile { reason, offset } => {
                 writeln!(f, "zns_runner: bad file: {reason} at {offset}")
+            }
+            Status::TooLarge { which, number } => {
+                writeln!(f, "zns_runner: too large: {which} {number}")
             }
         }
     }

@@ -1,9 +1,11 @@
 mod arguments;
+mod refusals;
+mod showing;
 
 use crate::status::Status;
 use crate::top::top_plain;
 use crate::word::Word;
-use session_file::Reason;
+use session_file::{Reason, Which};
 use std::alloc::Global;
 use std::test::Fail;
 use zns_io::{Bytes, MemSink, MemSource, Sink, Source, SureSink, SureSource, read_all};
@@ -52,6 +54,8 @@ const WRITE: u8 = 0x01;
 
 const READ: u8 = 0x02;
 
+const APPEND: u8 = 0x7d;
+
 // One block of 11h, at LBA 0.
 const FIRST: Command = Command {
     queue: 1,
@@ -61,7 +65,7 @@ const FIRST: Command = Command {
     byte: 0x11,
 };
 
-// The bytes behind all replies: four descriptors, and the page of changed zones.
+// The bytes after all replies: four descriptors, and the page of changed zones.
 const TAIL: usize = 4 * 64 + 4096;
 
 const NOT_BUILT: Status = Status::BadFile {
@@ -83,7 +87,7 @@ fn header(alloc: Global, drive: Drive, count: u8) -> Result<Vec<u8>, Fail> {
 }
 
 fn push_command(file: &mut Vec<u8>, command: Command, cid: u8) -> Result<(), Fail> {
-    let payload = if command.opcode == WRITE && command.queue != 0 {
+    let payload = if matches!(command.opcode, WRITE | APPEND) && command.queue != 0 {
         512 * u32::from(command.blocks)
     } else {
         0
@@ -99,6 +103,13 @@ fn push_command(file: &mut Vec<u8>, command: Command, cid: u8) -> Result<(), Fai
         file.push(command.byte)?;
     }
     Ok(())
+}
+
+// Puts other bytes at a place of a file.
+fn put(file: &mut [u8], place: u8, new: &[u8]) {
+    for (old, new) in file.iter_mut().skip(usize::from(place)).zip(new) {
+        *old = *new;
+    }
 }
 
 // A session's bytes. Its commands have the identifiers 1, 2 and so on.
@@ -127,17 +138,18 @@ fn run_one<S: Source, K: Sink>(
     Ok(top_plain(alloc, &words, source, sink))
 }
 
-// How the run on these bytes ends, and what it writes.
-fn run_on(alloc: Global, file: Vec<u8>) -> Result<(Status, Vec<u8>), Fail> {
+// How the run of a word on these bytes ends, and what it writes.
+fn run_on(alloc: Global, word: &str, file: Vec<u8>) -> Result<(Status, Vec<u8>), Fail> {
     let mut source = SureSource::new(Bytes::from_vec(file), 10_000);
     let mut sink = SureSink::new(alloc, 20_000, 5_000)?;
-    let status = run_one(alloc, &mut source, &mut sink)?;
+    let words = words(alloc, &[word])?;
+    let status = top_plain(alloc, &words, &mut source, &mut sink);
     Ok((status, Vec::from_slice(alloc, sink.bytes())?))
 }
 
 // What a session gives.
 fn output(alloc: Global, drive: Drive, commands: &[Command]) -> Result<Vec<u8>, Fail> {
-    let (status, out) = run_on(alloc, session(alloc, drive, commands)?)?;
+    let (status, out) = run_on(alloc, "one", session(alloc, drive, commands)?)?;
     if status == Status::Ok {
         Ok(out)
     } else {
@@ -230,7 +242,7 @@ fn a_full_zone_has_no_pointer(rt: HostRuntime) -> Result<(), Fail> {
 #[test]
 fn each_read_has_its_status(rt: HostRuntime) -> Result<(), Fail> {
     let alloc = rt.alloc();
-    // mdts, flags, the Read behind a Write of one block at LBA 64, and its status
+    // mdts, flags, the Read after a Write of one block at LBA 64, and its status
     for (mdts, flags, read, status) in [
         (0, 0, sent(READ, 60, 8), 0x41b8),
         (0, 0, sent(READ, u64::MAX, 1), 0x4080),
@@ -252,7 +264,7 @@ fn each_read_has_its_status(rt: HostRuntime) -> Result<(), Fail> {
 #[test]
 fn each_read_has_its_bytes(rt: HostRuntime) -> Result<(), Fail> {
     let alloc = rt.alloc();
-    // mdts, flags, first LBA and blocks of the Read behind a Write of one block at LBA 64, and the
+    // mdts, flags, first LBA and blocks of the Read after a Write of one block at LBA 64, and the
     // place of that block's bytes among those that it reads
     for (mdts, flags, slba, blocks, place) in [
         (0, 1, 60, 8, 4u16),
@@ -322,7 +334,7 @@ fn each_queue_goes_around(rt: HostRuntime) -> Result<(), Fail> {
 }
 
 #[test]
-fn what_is_not_served_is_refused(rt: HostRuntime) -> Result<(), Fail> {
+fn what_is_not_served_is_refused_and_shown(rt: HostRuntime) -> Result<(), Fail> {
     let alloc = rt.alloc();
     let admin = Command {
         queue: 0,
@@ -331,7 +343,7 @@ fn what_is_not_served_is_refused(rt: HostRuntime) -> Result<(), Fail> {
     // limit on active zones, windows, and the second command
     for (active_limit, windows, second) in [
         (0, 0, sent(0x00, 0, 1)),
-        (0, 0, sent(0x7d, 0, 1)),
+        (0, 0, sent(APPEND, 0, 1)),
         (0, 0, admin),
         (2, 0, FIRST),
         (0, 2, FIRST),
@@ -341,28 +353,12 @@ fn what_is_not_served_is_refused(rt: HostRuntime) -> Result<(), Fail> {
             windows,
             ..PLAIN
         };
-        let file = session(alloc, drive, &[FIRST, second])?;
-        let (status, out) = run_on(alloc, file)?;
-        assert_eq!(rt; (status, out.len()), (NOT_BUILT, 0));
-    }
-    Ok(())
-}
-
-// Of all fronts of a session and one byte behind it, only the session is served.
-#[test]
-fn other_lengths_are_no_session(rt: HostRuntime) -> Result<(), Fail> {
-    let alloc = rt.alloc();
-    let mut file = session(alloc, PLAIN, &[FIRST])?;
-    file.push(0)?;
-    assert_eq!(rt; file.len(), 649);
-    for len in 0..650 {
-        let answer = if len == 648 {
-            (Status::Ok, 4_388)
-        } else {
-            (NOT_BUILT, 0)
-        };
-        let (status, out) = run_on(alloc, Vec::from_slice(alloc, part(&file, 0, len))?)?;
-        assert_eq!(rt; (status, out.len()), answer, "of {len} bytes");
+        for (word, answer) in [("one", NOT_BUILT), ("show", Status::Ok)] {
+            let file = session(alloc, drive, &[FIRST, second])?;
+            let (status, out) = run_on(alloc, word, file)?;
+            assert_eq!(rt; status, answer);
+            assert_eq!(rt; out.is_empty(), word == "one");
+        }
     }
     Ok(())
 }
@@ -410,7 +406,14 @@ fn a_write_that_fails_leaves_a_front(rt: HostRuntime) -> Result<(), Fail> {
 #[test]
 fn other_words_read_nothing(rt: HostRuntime) -> Result<(), Fail> {
     let alloc = rt.alloc();
-    let rows: [&[&str]; 5] = [&[], &["one", "one"], &["two"], &["on"], &["ones"]];
+    let rows: [&[&str]; 6] = [
+        &[],
+        &["one", "one"],
+        &["one", "show"],
+        &["two"],
+        &["on"],
+        &["shows"],
+    ];
     for texts in rows {
         let file = session(alloc, PLAIN, &[FIRST])?;
         let mut source = SureSource::new(Bytes::from_vec(file), 100);
@@ -426,14 +429,18 @@ fn other_words_read_nothing(rt: HostRuntime) -> Result<(), Fail> {
 
 #[test]
 fn each_status_has_its_number_and_line(rt: HostRuntime) -> Result<(), Fail> {
-    let usage = "zns_runner: usage: one, run, check, show, host, gen NUMBER COUNT\n";
+    let too_large = Status::TooLarge {
+        which: Which::ZoneSize,
+        number: 65,
+    };
     for (status, number, line) in [
         (Status::Ok, 0, ""),
         (Status::NoMemory, 1, "zns_runner: no memory\n"),
-        (Status::Usage, 2, usage),
+        (Status::Usage, 2, "zns_runner: usage: one, show\n"),
         (Status::ReadFault, 3, "zns_runner: read fault\n"),
         (Status::WriteFault, 4, "zns_runner: write fault\n"),
         (NOT_BUILT, 5, "zns_runner: bad file: NotBuilt at 0\n"),
+        (too_large, 6, "zns_runner: too large: ZoneSize 65\n"),
     ] {
         assert_eq!(rt; status.number(), number);
         assert_eq!(rt; status.line(rt.alloc())?.as_slice(), line.as_bytes());

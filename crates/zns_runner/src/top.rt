@@ -1,87 +1,93 @@
-ghost use Rattle.std.specs.Prelude.{◌≡◌, ◌≢◌, ◌↔◌, IsTrue};
-ghost use Rattle.zns_runner.specs.Sessions.{one_word};
-ghost use Rattle.zns_runner.specs.Outcomes.{Means, IsComplete};
-ghost use Rattle.zns_runner.specs.Making.{FindsSession, MakesOutput};
+ghost use Rattle.std.specs.Prelude.{◌≡◌, ◌↔◌, ◌≤◌, ◌^◌, length};
+ghost use Rattle.zns_runner.specs.Tasks.{AskNothing};
+ghost use Rattle.zns_runner.specs.Outcomes.{moment, Means, IsComplete};
+ghost use Rattle.zns_runner.specs.Making.{Makes, MakesOutput, GivesOutput};
 
 use crate::built::is_built;
 use crate::serving::serve;
+use crate::showing::show;
 use crate::status::Status;
+use crate::task::{Task, task_of};
 use crate::word::Word;
-use session_file::{FileErr, Reason, Session, read};
+use session_file::{FileErr, Reason, Session, Which, read};
 use std::alloc::Global;
 use zns_io::{Bytes, ReadErr, Sink, Source, read_all, write_all};
 
 // No input is longer.
 const GREATEST_INPUT: u64 = 1 << 29;
 
-// The input is no session that is served.
-const NOT_BUILT: Status = Status::BadFile {
+// The session is not served yet.
+const NOT_BUILT: FileErr = FileErr::Bad {
     reason: Reason::NotBuilt,
     offset: 0,
 };
 
-// Whether the words ask to serve a session in its own order.
-fn asks_one(words: &[Word]) -> bool
-    ensures { IsTrue result ↔ (words.now ≡ one_word) }
+// The input is longer than the longest.
+const TOO_LONG: Status = Status::TooLarge {
+    which: Which::Input,
+    number: GREATEST_INPUT + 1,
+};
+
+// What a task makes of a session.
+fn make(alloc: Global, task: Task, session: Session) -> Result<Bytes, FileErr>
+    ensures { Makes task session result }
 {
-    match words {
-        [word] => word.is("one"),
-        _ => false,
+    match task {
+        Task::One if !is_built(session.geometry(), session.acts()) => Err(NOT_BUILT),
+        Task::One => Ok(serve(alloc, session)?),
+        Task::Show => Ok(show(alloc, &session)?),
     }
 }
 
-// The session that bytes spell, where it is served.
-fn session_of(alloc: Global, bytes: &[u8]) -> Result<Session, Status>
-    ensures { FindsSession bytes.now result }
+// What a task makes of an input.
+fn output_for(alloc: Global, task: Task, input: &[u8]) -> Result<Bytes, FileErr>
+    requires { length input.now ≤ 2 ^ 29 }
+    ensures { MakesOutput task input.now result }
 {
-    let session = match read(alloc, bytes) {
-        Ok(session) => session,
-        Err(FileErr::NoMemory) => return Err(Status::NoMemory),
-        Err(_) => return Err(NOT_BUILT),
-    };
-    if is_built(session.geometry(), session.acts()) {
-        Ok(session)
-    } else {
-        Err(NOT_BUILT)
-    }
+    let session = read(alloc, input)?;
+    make(alloc, task, session)
 }
 
-// The output for all that a source gives.
-fn output_of<S: Source>(alloc: Global, source: &mut S) -> Result<Bytes, Status>
-    ensures { MakesOutput (S.left source.old) (S.left source.new) (S.faults source.old) (S.faults source.new) result }
+// What a task makes of all that a source gives.
+fn output_of<S: Source>(alloc: Global, task: Task, source: &mut S) -> Result<Bytes, Status>
+    ensures { GivesOutput task (S.left source.old) (S.left source.new)
+        (S.faults source.old) (S.faults source.new) result }
 {
     let input = match read_all(alloc, source, GREATEST_INPUT) {
         Ok(input) => input,
         Err(ReadErr::NoMemory) => return Err(Status::NoMemory),
         Err(ReadErr::Failed) => return Err(Status::ReadFault),
-        Err(ReadErr::Over) => return Err(NOT_BUILT),
+        Err(ReadErr::Over) => return Err(TOO_LONG),
     };
-    let session = match session_of(alloc, input.as_slice()) {
-        Ok(session) => session,
-        Err(status) => return Err(status),
-    };
-    match serve(alloc, session) {
+    match output_for(alloc, task, input.as_slice()) {
         Ok(output) => Ok(output),
-        Err(_) => Err(Status::NoMemory),
+        Err(error) => Err(Status::from(error)),
     }
 }
 
-/// Serves the session that the source gives, where the words are the one word `one`, and writes its
-/// result to the sink. The whole output is made before its first byte is written.
+/// Does what the words ask for with the session that the source gives, and writes what it makes to
+/// the sink. The whole output is made before its first byte is written.
 pub fn top_plain<S: Source, K: Sink>(
     alloc: Global,
     words: &[Word],
     source: &mut S,
     sink: &mut K,
 ) -> Status
-    ensures usage { (result ≡ Status.Usage) ↔ (words.now ≢ one_word) }
-    ensures means { Means (record { left = S.left source.old; taken = K.taken sink.old; source_faults = S.faults source.old; sink_faults = K.faults sink.old }) (record { left = S.left source.new; taken = K.taken sink.new; source_faults = S.faults source.new; sink_faults = K.faults sink.new }) result }
-    ensures complete { IsComplete words.now (record { left = S.left source.old; taken = K.taken sink.old; source_faults = S.faults source.old; sink_faults = K.faults sink.old }) (record { left = S.left source.new; taken = K.taken sink.new; source_faults = S.faults source.new; sink_faults = K.faults sink.new }) result }
+    ensures usage { (result ≡ Status.Usage) ↔ AskNothing words.now }
+    ensures means { Means words.now
+        (moment (S.left source.old) (K.taken sink.old) (S.faults source.old) (K.faults sink.old))
+        (moment (S.left source.new) (K.taken sink.new) (S.faults source.new) (K.faults sink.new))
+        result }
+    ensures complete { IsComplete words.now
+        (moment (S.left source.old) (K.taken sink.old) (S.faults source.old) (K.faults sink.old))
+        (moment (S.left source.new) (K.taken sink.new) (S.faults source.new) (K.faults sink.new))
+        result }
 {
-    if !asks_one(words) {
-        return Status::Usage;
-    }
-    let output = match output_of(alloc, source) {
+    let task = match task_of(words) {
+        Some(task) => task,
+        None => return Status::Usage,
+    };
+    let output = match output_of(alloc, task, source) {
         Ok(output) => output,
         Err(status) => return status,
     };

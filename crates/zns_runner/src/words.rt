@@ -1,5 +1,5 @@
 ghost use Rattle.std.specs.Prelude.{◌≡◌, IfOk};
-ghost use Rattle.zns_runner.specs.Words.{behind_name, AreWordsOf};
+ghost use Rattle.zns_runner.specs.Words.{after_name, AreWordsOf};
 
 use crate::word::Word;
 use std::alloc::Global;
@@ -7,9 +7,9 @@ use std::env::{Args, Env};
 use std::{env, io};
 use zns_io::NoMemory;
 
-// The words of the arguments behind the program's name.
-fn words_behind_name(alloc: Global, args: Args) -> Result<Vec<Word>, NoMemory>
-    ensures { IfOk result (λ words. words.items ≡ behind_name args) }
+// The words of the arguments after the program's name.
+fn words_after_name(alloc: Global, args: Args) -> Result<Vec<Word>, NoMemory>
+    ensures { IfOk result (λ words. words.items ≡ after_name args) }
 {
     let mut args = args;
     let _name = args.next();
@@ -21,19 +21,19 @@ fn words_behind_name(alloc: Global, args: Args) -> Result<Vec<Word>, NoMemory>
     Ok(words)
 }
 
-// The words of what the environment told. A word that isn't text makes them none, which mean nothing;
-// want of memory says nothing of the words, so it stays an error.
+// The words of what the environment told. A word that isn't text makes them none, which mean
+// nothing. That memory ran out says nothing of the words, so it stays an error.
 fn words_of(alloc: Global, told: io::Result<Args>) -> Result<Vec<Word>, NoMemory>
     ensures { AreWordsOf told result }
 {
     match told {
-        Ok(args) => words_behind_name(alloc, args),
+        Ok(args) => words_after_name(alloc, args),
         Err(error) if error.kind() == io::ErrorKind::OutOfMemory => Err(NoMemory),
         Err(_) => Ok(Vec::new(alloc)),
     }
 }
 
-/// The words behind the program's name. No clause can say what an environment tells.
+/// The words after the program's name. No clause can say what an environment tells.
 pub fn words(rt: &(impl Env + AllocGlobal)) -> Result<Vec<Word>, NoMemory> {
     words_of(rt.alloc(), env::args(rt))
 }

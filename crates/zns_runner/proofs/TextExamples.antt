@@ -1,0 +1,75 @@
+-- Worked examples on texts, computed.
+use Rattle.std.proofs.Common.{◌≡◌, false, List, [], ◌∷◌, ◌++◌, map, refl}
+use Rattle.std.specs.Prelude.{replicate, codes}
+use Rattle.std.specs.Fmt.{digits}
+use Rattle.hex.specs.Hex.{encode_with}
+use Rattle.sqe_codec.specs.declared.cmd.Cmd.TheVariants as cmd
+use Rattle.sqe_codec.specs.Commands.{io_command, admin_command, cid_of}
+use Rattle.zone_history.specs.Histories.{pointer_since, state_of, window_of, block_of, attributes_of}
+use Rattle.zone_model.specs.declared.act.Act.{Act}
+use Rattle.zone_model.specs.Places.{command_of, deeds, had_excursion, cleared, waited, changed_zone}
+use Rattle.zone_model.specs.Zones.{counted, closed_zones}
+use Rattle.zone_model.specs.Notices.{enabled, changed, masked, pending, waiting}
+use Rattle.zone_model.specs.Answers.{status, evicted, zone_deed, fires, answer, answered_back, answered}
+use Rattle.zone_model.specs.Entries.{acts_on, entries_on, dwords_of, posted}
+use Rattle.zone_model.specs.Replies.{reply_bytes}
+use Rattle.zone_model.specs.Sessions.{Recorded}
+use Rattle.zone_model.proofs.ExampleDrive.{drive, filled}
+use Rattle.zone_model.proofs.ExampleDrive as act
+use Rattle.zns_runner.specs.Showing.{shown}
+use Rattle.zns_runner.specs.Summaries.{summary}
+use Rattle.zns_runner.specs.Generating.{made, made_acts}
+use Rattle.zns_runner.specs.Scripts.{write, append, put, open_window, flush_to, reset, report, scripted}
+
+-- a session of one Write
+abbrev pub one_write : Recorded
+one_write = record { geometry = drive; acts = act.write 0 1 (filled 1 0x11) ∷ [] }
+
+one_write-shown : shown one_write
+    ≡ codes "zones 4 size 64 capacity 48 block 512 active 3 open 2 windows 1 granule 4 window 8 queues 2 depth 64 commands 1"
+    ++ 10 ∷ codes "0 queue 1 cid 1 Write 0100010001000000" ++ replicate 112 48 ++ 10 ∷ []
+unfolding digits encode_with io_command admin_command shown
+one_write-shown = refl
+
+-- what such a session leaves
+one_write-summary : summary one_write
+    ≡ codes "commands 1" ++ 10 ∷ codes "success 1" ++ 10 ∷ codes "refused 0" ++ 10 ∷ codes "active 1" ++ 10 ∷ codes "open 1" ++ 10 ∷ codes "windows 0" ++ 10 ∷ codes "pointers 1" ++ 10 ∷ []
+unfolding io_command admin_command deeds pointer_since state_of window_of block_of attributes_of counted closed_zones had_excursion cleared waited changed_zone changed enabled masked pending waiting status evicted zone_deed fires answer answered_back answered digits summary
+one_write-summary = refl
+
+none-summary : summary (made 5 0)
+    ≡ codes "commands 0" ++ 10 ∷ codes "success 0" ++ 10 ∷ codes "refused 0" ++ 10 ∷ codes "active 0" ++ 10 ∷ codes "open 0" ++ 10 ∷ codes "windows 0" ++ 10 ∷ codes "pointers 0" ++ 10 ∷ []
+unfolding io_command admin_command deeds pointer_since state_of window_of block_of attributes_of counted closed_zones had_excursion cleared waited changed_zone changed enabled masked pending waiting status evicted zone_deed fires answer answered_back answered digits summary made
+none-summary = refl
+
+-- the first commands that the number 1 makes: their queues, command numbers, commands, and the bytes that they repeat
+abbrev pub made_from_1 : List Act
+made_from_1 = made_acts 8 0 1
+
+made_from_1-queues : map (λ (a : Act). a.queue) made_from_1 ≡ 3 ∷ 1 ∷ 1 ∷ 1 ∷ 2 ∷ 2 ∷ 1 ∷ 1 ∷ []
+made_from_1-queues = refl
+
+made_from_1-cids : map (λ (a : Act). cid_of a.sqe.bytes) made_from_1 ≡ 0 ∷ 1 ∷ 2 ∷ 3 ∷ 4 ∷ 5 ∷ 6 ∷ 7 ∷ []
+made_from_1-cids = refl
+
+made_from_1-commands : map command_of made_from_1
+    ≡ cmd.Write 1 49254 1 ∷ cmd.Append 1 40960 1 ∷ cmd.Write 1 45170 1 ∷ cmd.Append 1 40960 1
+    ∷ cmd.Receive 1 16384 512 0 0 false ∷ cmd.Send 1 57344 4 false false ∷ cmd.Append 1 16384 1 ∷ cmd.Append 1 61440 1 ∷ []
+unfolding io_command
+made_from_1-commands = refl
+
+made_from_1-bytes : map (λ (a : Act). a.payload) made_from_1
+    ≡ filled 1 230 ∷ filled 1 246 ∷ filled 1 242 ∷ filled 1 12 ∷ [] ∷ [] ∷ filled 1 160 ∷ filled 1 18 ∷ []
+made_from_1-bytes = refl
+
+-- a window is opened, written and flushed; an append to it is refused; and the zone is reset
+windowed-scripted : scripted drive (open_window 0 ∷ put 0 0 4 17 ∷ flush_to 0 3 ∷ report 0 ∷ append 0 1 5 ∷ reset 0 ∷ report 0 ∷ [])
+    ≡ codes "ok" ++ 10 ∷ codes "ok" ++ 10 ∷ codes "ok" ++ 10 ∷ codes "0 3 1 4" ++ 10 ∷ codes "refused 1 b6" ++ 10 ∷ codes "ok" ++ 10 ∷ codes "0 1 0 0" ++ 10 ∷ []
+unfolding io_command admin_command deeds pointer_since state_of window_of block_of attributes_of counted closed_zones had_excursion cleared waited changed_zone changed enabled masked pending waiting status evicted zone_deed fires answer answered_back answered acts_on entries_on dwords_of posted reply_bytes digits encode_with scripted
+windowed-scripted = refl
+
+-- an append tells its first block, a full zone has no pointer, and generic codes are refused with type 0
+appended-scripted : scripted drive (append 1 47 9 ∷ append 1 1 9 ∷ report 1 ∷ write 256 1 7 ∷ write 128 2 7 ∷ report 2 ∷ [])
+    ≡ codes "ok 64" ++ 10 ∷ codes "ok 111" ++ 10 ∷ codes "1 e 0 -" ++ 10 ∷ codes "refused 0 80" ++ 10 ∷ codes "ok" ++ 10 ∷ codes "2 2 0 2" ++ 10 ∷ []
+unfolding io_command admin_command deeds pointer_since state_of window_of block_of attributes_of counted closed_zones had_excursion cleared waited changed_zone changed enabled masked pending waiting status evicted zone_deed fires answer answered_back answered acts_on entries_on dwords_of posted reply_bytes digits encode_with scripted
+appended-scripted = refl
