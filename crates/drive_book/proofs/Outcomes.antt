@@ -13,11 +13,10 @@ use Rattle.zone_model.specs.Notices.{pending, waiting, fires_by}
 use Rattle.zone_model.specs.Answers.{status, fires}
 use Rattle.zone_model.specs.Entries.{dwords_of, dwords_by}
 use Rattle.zone_model.specs.Replies.{reply_bytes, read_by}
-use Rattle.changed_log.specs.declared.waited.Waited.{Waited}
 use Rattle.changed_log.specs.declared.waited.Waited.TheVariants as waited_as
 use Rattle.changed_log.specs.Marks.{told_to, fired_by}
 use Rattle.drive_book.specs.declared.outcome.Outcome.{Outcome}
-use Rattle.drive_book.specs.Outcomes.{refusal_with, plain_success, told, event_by, OutcomeStands}
+use Rattle.drive_book.specs.Outcomes.{refusal_with, plain_success, told, request_outcome, event_by, OutcomeStands}
 use Rattle.drive_book.specs.Books.{marks_of}
 use Rattle.drive_book.proofs.Done.{IsDone, done-fired}
 use Rattle.drive_book.proofs.Marks.{request_status, request-status, excursion-fires}
@@ -82,12 +81,6 @@ excursion-stands g h a nsid slba kind d =
     subst (λ (o : Option ℕ). OutcomeStands g h a (record plain_success { event = o })) event (done-stands g h a c d)
 
 -- ---- an event request
-
--- what becomes of it
-abbrev pub request_outcome : Waited → Outcome
-request_outcome waited_as.Fired = told
-request_outcome waited_as.Limit = refusal_with (request_status waited_as.Limit)
-request_outcome waited_as.Kept = record told { waits = true }
 
 by_marks : (g : GeometryFields) (h : List Place) (a : Act) (there full : Bool) → pending h ≡ there → command_of a ≡ cmd.Event → status g h a ≡ request_status (cond there waited_as.Fired (cond full waited_as.Limit waited_as.Kept))
     → OutcomeStands g h a (request_outcome (cond there waited_as.Fired (cond full waited_as.Limit waited_as.Kept)))

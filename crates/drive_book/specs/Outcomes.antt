@@ -1,9 +1,11 @@
 -- What becomes of a command.
-use Rattle.std.specs.Prelude.{◌≡◌, ℕ, false, List, length, Option, None}
+use Rattle.std.specs.Prelude.{◌≡◌, ℕ, true, false, List, length, Option, None}
 use Rattle.zns_types.specs.declared.fields.GeometryFields.{GeometryFields}
-use Rattle.zns_types.specs.Statuses.{Status, success}
+use Rattle.zns_types.specs.Statuses.{Status, success, event_limit_exceeded}
 use Rattle.sqe_codec.specs.declared.cmd.Cmd.{Cmd}
 use Rattle.sqe_codec.specs.declared.cmd.Cmd.TheVariants as cmd
+use Rattle.changed_log.specs.declared.waited.Waited.{Waited}
+use Rattle.changed_log.specs.declared.waited.Waited.TheVariants as waited
 use Rattle.zone_model.specs.declared.act.Act.{Act}
 use Rattle.zone_model.specs.Places.{Place, command_of}
 use Rattle.zone_model.specs.Answers.{status, fires}
@@ -21,6 +23,12 @@ plain_success = refusal_with success
 -- what an event request is told
 abbrev pub told : Outcome
 told = record plain_success { dw0 = event_dwords.dw0; dw1 = event_dwords.dw1 }
+
+-- what becomes of an event request
+abbrev pub request_outcome : Waited → Outcome
+request_outcome waited.Fired = told
+request_outcome waited.Limit = refusal_with event_limit_exceeded
+request_outcome waited.Kept = record told { waits = true }
 
 -- the event request that an excursion answers
 abbrev pub event_by : Cmd → Option ℕ → Option ℕ
