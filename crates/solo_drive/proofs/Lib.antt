@@ -7,7 +7,15 @@ pub mod Ranges
 pub mod LentReads
 pub mod Plain
 pub mod PlainReads
+pub mod FirstBytes
+pub mod Noted
 pub mod Deciding
 pub mod Entered
 pub mod Asking
+pub mod Transfers
+pub mod Giving
+pub mod PlainReports
+pub mod PlainPages
 pub mod Drives
+pub mod AllZones
+pub mod Sweeps

@@ -1,8 +1,8 @@
 -- Acts that go to no one zone: refused at the front, a Flush, and a Read.
 use Rattle.std.proofs.Common.{◌≡◌, ℕ, ◌+◌, ◌-◌, Bool, true, false, cond, List, [], ◌∷◌, ◌++◌, Option, Some, None, drop, refl, sym, ap, ◌∙◌, subst, inl, inr}
-use Rattle.std.specs.Prelude.{is_none, unwrap_or}
+use Rattle.std.specs.Prelude.{◌==◌, is_none, unwrap_or}
 use Rattle.std.proofs.Math.Bool.{and-false}
-use Rattle.std.proofs.lemmas.Bool.{cases_Bool}
+use Rattle.std.proofs.lemmas.Bool.{cases_Bool, eqb-true}
 use Rattle.zns_types.specs.declared.fields.GeometryFields.{GeometryFields}
 use Rattle.zns_types.specs.Geometry.{IsGeometry}
 use Rattle.zns_types.specs.Statuses.{Status, success, is_success}
@@ -15,7 +15,7 @@ use Rattle.zone_limits.specs.declared.limits.Limits.{Limits}
 use Rattle.zone_limits.specs.declared.limits.Need.{Need}
 use Rattle.zone_limits.specs.Resources.{no_need, no_active_left, need_rows}
 use Rattle.drive_rules.specs.declared.deed.Deed.{Deed}
-use Rattle.drive_rules.specs.Aims.{aim_of, sweep_of}
+use Rattle.drive_rules.specs.Aims.{open_code, sent_deed, aim_of, sweep_of}
 use Rattle.drive_rules.specs.Tables.{Table, front_rows, table_rows, wants_room}
 use Rattle.zone_model.specs.declared.act.Act.{Act}
 use Rattle.zone_model.specs.Places.{Place, command_of}
@@ -36,7 +36,6 @@ use Rattle.drive_book.proofs.Marks.{marks_by, has_asked, marks-step}
 use Rattle.drive_book.proofs.Outcomes.{outcome_by, done-stands}
 use Rattle.zone_cell.specs.Cells.{Cell}
 use Rattle.solo_drive.specs.Parts.{PartsStand}
-use Rattle.solo_drive.specs.Served.{is_served}
 use Rattle.solo_drive.specs.Applying.{history_of, IsDone}
 use Rattle.solo_drive.proofs.Told.{IsSilent, silent-done, refused-done}
 
@@ -101,33 +100,68 @@ plain-status g h a e none =
 
 pub record IsQuiet (g : GeometryFields) (h : List Place) (cid : ℕ) (k : Cmd) : Type 0 where
   pub own : own_rows g h k ≡ []
-  pub sweep : sweep_of k ≡ None
   pub outcome : outcome_by g h cid k ≡ plain_success
   pub reads : read_by g h k ≡ []
   pub log : log_by g k (changed g h) ≡ changed g h
   pub marks : marks_by cid k (marks_of h) ≡ marks_of h
 
-pub quiet : (g : GeometryFields) (h : List Place) (cid : ℕ) (k : Cmd) → is_served k ≡ true → first_holding (front_rows g k) ≡ None → aim_of g k ≡ None → ((nsid slba blocks : ℕ) → k ≡ cmd.Read nsid slba blocks → ⊥) → IsQuiet g h cid k
-quiet g h cid (cmd.Flush nsid) is passes e other = record { own = refl; sweep = refl; outcome = refl; reads = refl; log = refl; marks = refl }
-quiet g h cid (cmd.Read nsid slba blocks) is passes e other = absurd (other nsid slba blocks refl)
-quiet g h cid (cmd.Send nsid slba act true option) is passes e other = absurd (cc is)
-quiet g h cid (cmd.Send nsid slba act false option) is passes e other = record { own = refl; sweep = refl; outcome = refl; reads = refl; log = refl; marks = refl }
-quiet g h cid (cmd.Unknown opcode) is passes e other = absurd (cc passes)
-quiet g h cid (cmd.Write nsid slba blocks) is passes e other = absurd (cc e)
-quiet g h cid (cmd.Append nsid slba blocks) is passes e other = absurd (cc e)
-quiet g h cid (cmd.Excursion nsid slba kind) is passes e other = absurd (cc e)
-quiet g h cid _ is passes e other = absurd (cc is)
+-- what goes to no zone, and gives or changes something
+abbrev pub is_lively : Cmd → Bool
+is_lively (cmd.Read nsid slba blocks) = true
+is_lively (cmd.Receive nsid slba bytes act filter partial) = true
+is_lively (cmd.Identify nsid cns csi) = true
+is_lively (cmd.GetLog nsid page bytes offset retain) = true
+is_lively (cmd.SetFeature feature value) = true
+is_lively (cmd.GetFeature feature) = true
+is_lively cmd.Event = true
+is_lively _ = false
 
-pub quiet-done : (g : GeometryFields) (a : Act) (cells : List Cell) (book : Book) (out : List ℕ) (o : Outcome) → IsGeometry g → PartsStand g a cells book → is_served (command_of a) ≡ true → first_holding (front_rows g (command_of a)) ≡ None
-    → aim_of g (command_of a) ≡ None → ((nsid slba blocks : ℕ) → command_of a ≡ cmd.Read nsid slba blocks → ⊥) → o ≡ plain_success → IsDone g a o cells cells book book out out
+unsent : (act : ℕ) (option : Bool) → sent_deed act option 0 ≡ None → (act == open_code) ≡ false
+unsent act option none = elim (cases_Bool (act == open_code)) [
+  | inl opens ↦ (let e : act ≡ open_code = eqb-true act open_code opens in absurd (cc (none, ap (λ (n : ℕ). sent_deed n option 0) e)))
+  | inr other ↦ other
+]
+
+quiet : (g : GeometryFields) (h : List Place) (cid : ℕ) (k : Cmd) → first_holding (front_rows g k) ≡ None → aim_of g k ≡ None → sweep_of k ≡ None → is_lively k ≡ false → IsQuiet g h cid k
+quiet g h cid (cmd.Flush nsid) passes e none other = record { own = refl; outcome = refl; reads = refl; log = refl; marks = refl }
+quiet g h cid (cmd.Send nsid slba act true option) passes e none other = record { own = rw (unsent act option none) refl; outcome = refl; reads = refl; log = refl; marks = refl }
+quiet g h cid (cmd.Send nsid slba act false option) passes e none other = record { own = refl; outcome = refl; reads = refl; log = refl; marks = refl }
+quiet g h cid (cmd.Unknown opcode) passes e none other = absurd (cc passes)
+quiet g h cid (cmd.Write nsid slba blocks) passes e none other = absurd (cc e)
+quiet g h cid (cmd.Append nsid slba blocks) passes e none other = absurd (cc e)
+quiet g h cid (cmd.Excursion nsid slba kind) passes e none other = absurd (cc e)
+quiet g h cid _ passes e none other = absurd (cc other)
+
+-- it is neither of the commands that give or change something
+pub record IsOther (k : Cmd) : Type 0 where
+  pub read : (nsid slba blocks : ℕ) → k ≡ cmd.Read nsid slba blocks → ⊥
+  pub receive : (nsid slba bytes act filter : ℕ) (partial : Bool) → k ≡ cmd.Receive nsid slba bytes act filter partial → ⊥
+  pub identify : (nsid cns csi : ℕ) → k ≡ cmd.Identify nsid cns csi → ⊥
+  pub log : (nsid page bytes offset : ℕ) (retain : Bool) → k ≡ cmd.GetLog nsid page bytes offset retain → ⊥
+  pub set : (feature value : ℕ) → k ≡ cmd.SetFeature feature value → ⊥
+  pub get : (feature : ℕ) → k ≡ cmd.GetFeature feature → ⊥
+  pub ask : k ≡ cmd.Event → ⊥
+
+pub other-quiet : (k : Cmd) → IsOther k → is_lively k ≡ false
+other-quiet (cmd.Read nsid slba blocks) n = absurd (n.read nsid slba blocks refl)
+other-quiet (cmd.Receive nsid slba bytes act filter partial) n = absurd (n.receive nsid slba bytes act filter partial refl)
+other-quiet (cmd.Identify nsid cns csi) n = absurd (n.identify nsid cns csi refl)
+other-quiet (cmd.GetLog nsid page bytes offset retain) n = absurd (n.log nsid page bytes offset retain refl)
+other-quiet (cmd.SetFeature feature value) n = absurd (n.set feature value refl)
+other-quiet (cmd.GetFeature feature) n = absurd (n.get feature refl)
+other-quiet cmd.Event n = absurd (n.ask refl)
+other-quiet _ n = refl
+
+pub quiet-done : (g : GeometryFields) (a : Act) (cells : List Cell) (book : Book) (out : List ℕ) (o : Outcome) → IsGeometry g → PartsStand g a cells book → first_holding (front_rows g (command_of a)) ≡ None → aim_of g (command_of a) ≡ None
+    → sweep_of (command_of a) ≡ None → is_lively (command_of a) ≡ false → o ≡ plain_success → IsDone g a o cells cells book book out out
 unfolding reply_bytes
-quiet-done g a cells book out o valid p served passes e other is =
+quiet-done g a cells book out o valid p passes e none other is =
     let h = history_of g book in
-    let k = quiet g h (cid_of a.sqe.bytes) (command_of a) served passes e other in
+    let k = quiet g h (cid_of a.sqe.bytes) (command_of a) passes e none other in
     let ok : is_success (status g h a) ≡ true = ap is_success (plain-status g h a e passes ∙ ap (λ (rows : List (Row Status)). unwrap_or (first_holding rows) success) k.own) in
     let d : done.IsDone g h a (command_of a) = record { success = ok; command = refl } in
     let silent : IsSilent g h a = record {
-      idle = λ z. plain-idle g h a z e k.sweep;
+      idle = λ z. plain-idle g h a z e none;
       changed = changed-step g h a valid ∙ rw ok k.log;
       marks = marks-step g h a (has_asked g book.journal.acts) ∙ rw ok k.marks;
     } in

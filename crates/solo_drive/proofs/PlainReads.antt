@@ -88,7 +88,7 @@ read-room g a nsid slba blocks room e none le =
 -- ---- what becomes of it
 
 -- the bytes that were read
-read-len : (front old new : List ℕ) (n : ℕ) → new ≡ front ++ drop n old → length new ≡ length old → n ≤ length old → length front ≡ n
+pub read-len : (front old new : List ℕ) (n : ℕ) → new ≡ front ++ drop n old → length new ≡ length old → n ≤ length old → length front ≡ n
 read-len front old new n is same within = omega (arith, ap length is ∙ length-append front (drop n old), length-drop n old)
 
 own-read : (g : GeometryFields) (h : List Place) (a : Act) (nsid slba blocks : ℕ) → command_of a ≡ cmd.Read nsid slba blocks → own_rows g h (command_of a) ≡ read_rows g (state g h) slba blocks

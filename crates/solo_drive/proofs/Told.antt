@@ -37,7 +37,7 @@ use Rattle.solo_drive.proofs.Cells.{cell-idle}
 
 -- ---- acts that do nothing to any zone
 
-cells-idle : (g : GeometryFields) (h : List Place) (a : Act) (zs : List ℕ) → ((z : ℕ) → zone_deed g h a z ≡ None) → cells_at g h zs ≡ cells_at g (and_then g h a) zs
+pub cells-idle : (g : GeometryFields) (h : List Place) (a : Act) (zs : List ℕ) → ((z : ℕ) → zone_deed g h a z ≡ None) → cells_at g h zs ≡ cells_at g (and_then g h a) zs
 cells-idle g h a zs idle = ap (λ (f : ℕ → Cell). map f zs) (λ i z. sym (cell-idle g h a z (idle z)) i)
 
 -- log and marks stay too

@@ -3,5 +3,6 @@ pub mod Parts
 pub mod Reaching
 pub mod Reading
 pub mod Applying
-pub mod Served
 pub mod Telling
+pub mod Sweeping
+pub mod Noticing

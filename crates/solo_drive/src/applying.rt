@@ -1,7 +1,6 @@
-ghost use Rattle.std.specs.Prelude.{◌≡◌, ◌<◌, length};
+ghost use Rattle.std.specs.Prelude.{◌<◌, length};
 ghost use Rattle.solo_drive.specs.Drives.{HasLengths, act_of};
 ghost use Rattle.solo_drive.specs.Parts.{PartsStand};
-ghost use Rattle.solo_drive.specs.Served.{IsServed};
 ghost use Rattle.solo_drive.specs.Applying.{Applies};
 
 use crate::applied::Applied;
@@ -26,7 +25,6 @@ pub fn apply(
 ) -> Applied
     requires spare { 0 < book.old.journal.spare }
     requires queue { queue < g.now.fields.queues }
-    requires served { IsServed (act_of queue sqe payload) }
     requires lengths { HasLengths g.now.fields (act_of queue sqe payload) (length out.old) }
     requires parts { PartsStand g.now.fields (act_of queue sqe payload) cells.old book.old }
     ensures { Applies g.now.fields (act_of queue sqe payload)

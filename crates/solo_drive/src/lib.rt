@@ -3,10 +3,14 @@
 
 mod applied;
 mod applying;
+mod notices;
+mod pages;
 mod reach;
 mod reads;
+mod reports;
 mod serving;
 mod solo;
+mod sweeping;
 
 pub use applied::Applied;
 pub use applying::apply;

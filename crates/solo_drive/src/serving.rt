@@ -1,19 +1,23 @@
 ghost use Rattle.std.specs.Prelude.{◌≡◌, ◌^◌, ◌<◌, ◌≤◌, Some, None, length};
 ghost use Rattle.zns_types.specs.Rows.{first_holding};
-ghost use Rattle.drive_rules.specs.Aims.{aim_of};
+ghost use Rattle.sqe_codec.specs.Ranges.{HasRanges};
+ghost use Rattle.drive_rules.specs.Aims.{aim_of, sweep_of};
 ghost use Rattle.drive_rules.specs.Tables.{front_rows};
 ghost use Rattle.zone_model.specs.Places.{command_of};
 ghost use Rattle.solo_drive.specs.Drives.{HasLengths};
 ghost use Rattle.solo_drive.specs.Parts.{PartsStand};
-ghost use Rattle.solo_drive.specs.Served.{IsServed};
-ghost use Rattle.solo_drive.specs.Applying.{Serves};
+ghost use Rattle.solo_drive.specs.Applying.{IsDone, Serves};
 ghost use Rattle.solo_drive.specs.Telling.{Tells};
 
+use crate::notices::{ask, get_feature, read_log, set_feature};
+use crate::pages::serve_identify;
 use crate::reads::read_blocks;
+use crate::reports::serve_receive;
+use crate::sweeping::serve_sweep;
 use drive_book::{Book, Outcome};
-use drive_rules::{Aim, Deed, aim_of, check_front};
-use sqe_codec::{Cmd, read};
-use zns_types::{Code, Geometry};
+use drive_rules::{Aim, Deed, aim_of, check_front, sweep_of};
+use sqe_codec::{Cmd, cid, read};
+use zns_types::Geometry;
 use zone_cell::ZoneCell;
 use zone_model::Act;
 use zone_room::{Served, serve_deed};
@@ -72,6 +76,46 @@ fn serve_aim(
     }
 }
 
+// Serves a command that goes to no zone alone, nor to all to change them, after the rows that no
+// zone decides.
+fn serve_plain(
+    cells: &[ZoneCell],
+    book: &mut Book,
+    g: &Geometry,
+    act: &Act,
+    command: Cmd,
+    out: &mut [u8],
+) -> Outcome
+    requires command { command ≡ command_of act.now }
+    requires ranges { HasRanges command }
+    requires passes { first_holding (front_rows g.now.fields command) ≡ None }
+    requires aim { aim_of g.now.fields command ≡ None }
+    requires sweep { sweep_of command ≡ None }
+    requires lengths { HasLengths g.now.fields act.now (length out.old) }
+    requires parts { PartsStand g.now.fields act.now cells.now book.old }
+    ensures { IsDone g.now.fields act.now result cells.now cells.now book.old book.new out.old out.new }
+{
+    match command {
+        Cmd::Read { slba, blocks, .. } => {
+            let first = cells[0].zone();
+            read_blocks(cells, g, first, slba, blocks, out)
+        }
+        Cmd::Receive {
+            slba,
+            bytes,
+            filter,
+            partial,
+            ..
+        } => serve_receive(cells, g, slba, bytes, filter, partial, out),
+        Cmd::Identify { cns, csi, .. } => serve_identify(g, cns, csi, out),
+        Cmd::GetLog { bytes, retain, .. } => read_log(book, g, bytes, retain, out),
+        Cmd::SetFeature { value, .. } => set_feature(book, value),
+        Cmd::GetFeature { .. } => get_feature(book),
+        Cmd::Event => ask(book, cid(&act.sqe)),
+        _ => Outcome::done(),
+    }
+}
+
 /// Serves an act on lent cells and a book: all but its entries, its tally and its place in the
 /// journal. Where another zone has to give way that the cells don't have, nothing changes.
 pub fn serve(
@@ -81,7 +125,6 @@ pub fn serve(
     act: &Act,
     out: &mut [u8],
 ) -> Option<Outcome>
-    requires served { IsServed act.now }
     requires lengths { HasLengths g.now.fields act.now (length out.old) }
     requires parts { PartsStand g.now.fields act.now cells.old book.old }
     ensures { Serves g.now.fields act.now cells.old cells.new book.old book.new out.old out.new result }
@@ -93,11 +136,8 @@ pub fn serve(
     if let Some(aim) = aim_of(g, command) {
         return serve_aim(cells, book, g, aim, act, out);
     }
-    match command {
-        Cmd::Read { slba, blocks, .. } => {
-            let first = cells[0].zone();
-            Some(read_blocks(cells, g, first, slba, blocks, out))
-        }
-        _ => Some(Outcome::done()),
+    if let Some(deed) = sweep_of(command) {
+        return Some(serve_sweep(cells, book, g, deed));
     }
+    Some(serve_plain(cells, book, g, act, command, out))
 }

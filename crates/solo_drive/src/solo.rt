@@ -8,7 +8,6 @@ ghost use Rattle.zone_model.specs.Zones.{counts, pointer, zones};
 ghost use Rattle.solo_drive.specs.Drives.{HasLengths, act_of, drive_of, history, entries_for, bytes_for, changed_zones};
 ghost use Rattle.solo_drive.specs.Parts.{DriveStands};
 ghost use Rattle.solo_drive.specs.Reading.{descriptor_in};
-ghost use Rattle.solo_drive.specs.Served.{IsServed};
 
 use crate::applied::Applied;
 use crate::applying::apply;
@@ -95,7 +94,6 @@ impl Solo {
     pub fn submit(&mut self, queue: u16, sqe: Sqe, payload: Bytes, out: &mut [u8]) -> Posted
         requires spare { 0 < self.old.spare }
         requires queue { queue < self.old.geometry.queues }
-        requires served { IsServed (act_of queue sqe payload) }
         requires lengths { HasLengths self.old.geometry (act_of queue sqe payload)
             (length out.old) }
         ensures journal { self.new.acts ≡ self.old.acts ++ act_of queue sqe payload ∷ [] }

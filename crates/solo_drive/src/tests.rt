@@ -1,17 +1,16 @@
-ghost use Rattle.std.specs.Prelude.{◌≡◌, ◌==◌, true, IsTrue};
-ghost use Rattle.sqe_codec.specs.Commands.{command};
+ghost use Rattle.std.specs.Prelude.{IsTrue};
 ghost use Rattle.sqe_codec.specs.Ranges.{IsWritable};
-ghost use Rattle.solo_drive.specs.Served.{is_served};
 
 use super::*;
 use byteorder::{ByteOrder, LittleEndian};
 use cqe_codec::Cqe;
-use sqe_codec::{Cmd, Sqe, read, reply_len, transfer_len, write};
+use sqe_codec::{Cmd, reply_len, transfer_len, write};
 use std::alloc::Global;
 use std::test::Fail;
 use zns_io::Bytes;
 use zns_types::{Code, Geometry, GeometryFields};
 
+mod administering;
 mod managing;
 
 // Zones of 48 blocks of 512 bytes, with no limits.
@@ -112,27 +111,34 @@ fn is_writable(cmd: Cmd) -> bool
             1 <= blocks && blocks <= 65_536
         }
         Cmd::Unknown { opcode } => opcode == 0x55,
-        Cmd::Send { .. } | Cmd::Flush { .. } | Cmd::Excursion { .. } => true,
-        _ => false,
+        Cmd::Receive { bytes, .. } | Cmd::GetLog { bytes, .. } => {
+            4 <= bytes && bytes <= 1 << 34 && bytes % 4 == 0
+        }
+        _ => true,
     }
 }
 
-fn is_served(sqe: &Sqe, queue: u16) -> bool
-    ensures { IsTrue result → is_served (command (queue == 0) sqe.now.bytes) ≡ true }
-{
-    match read(sqe, queue == 0) {
-        Cmd::Write { .. }
-        | Cmd::Read { .. }
-        | Cmd::Append { .. }
-        | Cmd::Flush { .. }
-        | Cmd::Excursion { .. }
-        | Cmd::Unknown { .. } => true,
-        Cmd::Send { all, .. } => !all,
-        _ => false,
+// Serves a command whose host data are of one byte: what it posts, and the room for what it reads,
+// which held EEh.
+fn post(
+    alloc: Global,
+    drive: &mut Solo,
+    queue: u16,
+    cmd: Cmd,
+    byte: u8,
+) -> Result<Option<(Posted, Vec<u8>)>, Fail> {
+    let g = drive.geometry();
+    if !is_writable(cmd) || queue >= g.fields().queues || drive.spare() == 0 {
+        return Ok(None);
     }
+    let sqe = write(&cmd, 7);
+    let payload = Bytes::filled(alloc, transfer_len(g, queue == 0, &sqe), byte)?;
+    let mut out = vec![in alloc; 0xee; reply_len(g, queue == 0, &sqe) as usize]?;
+    let posted = drive.submit(queue, sqe, payload, &mut out);
+    Ok(Some((posted, out)))
 }
 
-// Serves a command whose host data are of one byte.
+// The same, with the first entry alone.
 fn serve(
     alloc: Global,
     drive: &mut Solo,
@@ -140,17 +146,9 @@ fn serve(
     cmd: Cmd,
     byte: u8,
 ) -> Result<Option<Answer>, Fail> {
-    if !is_writable(cmd) {
+    let Some((posted, out)) = post(alloc, drive, queue, cmd, byte)? else {
         return Ok(None);
-    }
-    let sqe = write(&cmd, 7);
-    let g = drive.geometry();
-    if !is_served(&sqe, queue) || queue >= g.fields().queues || drive.spare() == 0 {
-        return Ok(None);
-    }
-    let payload = Bytes::filled(alloc, transfer_len(g, queue == 0, &sqe), byte)?;
-    let mut out = vec![in alloc; 0xee; reply_len(g, queue == 0, &sqe) as usize]?;
-    let posted = drive.submit(queue, sqe, payload, &mut out);
+    };
     let len = posted.len;
     Ok(
         posted.entries.as_slice().first().map(|entry| Answer {

@@ -16,7 +16,7 @@ const FINISH: u8 = 0x02;
 
 const OFFLINE: u8 = 0x05;
 
-const FLUSH: u8 = 0x11;
+const COMMIT: u8 = 0x11;
 
 // Serves the rows up to the first that is answered otherwise, or leaves zone 0 otherwise.
 fn first_unmanaged(
@@ -49,7 +49,7 @@ fn zones_are_managed(rt: HostRuntime) -> Result<(), Fail> {
         (send(0, 0x10, false), 0, invalid, 1, 0),
         (send(256, OPEN, false), 0, Code::LBA_OUT_OF_RANGE, 1, 0),
         (send(0, OPEN, true), 0, Code { sct: 1, sc: 0xb6 }, 1, 0),
-        (send(0, FLUSH, false), 0, Code { sct: 1, sc: 0xb6 }, 1, 0),
+        (send(0, COMMIT, false), 0, Code { sct: 1, sc: 0xb6 }, 1, 0),
         (put(0, 1), 0x11, DONE, 2, 1),
         (send(0, OPEN, false), 0, DONE, 3, 1),
         (send(0, CLOSE, false), 0, DONE, 4, 1),
@@ -79,18 +79,18 @@ fn a_random_write_area_moves(rt: HostRuntime) -> Result<(), Fail> {
         (put(8, 1), 0x33, DONE, 3, 4),
         (put(15, 1), 0x33, DONE, 3, 8),
         (put(24, 1), 0x33, Code { sct: 1, sc: 0xbc }, 3, 8),
-        (send(10, FLUSH, false), 0, Code::INVALID_FIELD, 3, 8),
-        (send(16, FLUSH, false), 0, past, 3, 8),
-        (send(11, FLUSH, false), 0, DONE, 3, 12),
-        (send(11, FLUSH, false), 0, past, 3, 12),
+        (send(10, COMMIT, false), 0, Code::INVALID_FIELD, 3, 8),
+        (send(16, COMMIT, false), 0, past, 3, 8),
+        (send(11, COMMIT, false), 0, DONE, 3, 12),
+        (send(11, COMMIT, false), 0, past, 3, 12),
         (send(64, OPEN, true), 0, Code { sct: 1, sc: 0xb7 }, 3, 12),
-        (send(19, FLUSH, false), 0, DONE, 3, 20),
-        (send(27, FLUSH, false), 0, DONE, 3, 28),
-        (send(35, FLUSH, false), 0, DONE, 3, 36),
-        (send(43, FLUSH, false), 0, DONE, 3, 44),
+        (send(19, COMMIT, false), 0, DONE, 3, 20),
+        (send(27, COMMIT, false), 0, DONE, 3, 28),
+        (send(35, COMMIT, false), 0, DONE, 3, 36),
+        (send(43, COMMIT, false), 0, DONE, 3, 44),
         (put(48, 1), 0x44, past, 3, 44),
         (put(44, 4), 0x44, DONE, 3, 44),
-        (send(47, FLUSH, false), 0, DONE, 14, 48),
+        (send(47, COMMIT, false), 0, DONE, 14, 48),
         (put(40, 1), 0x44, Code { sct: 1, sc: 0xb9 }, 14, 48),
         (send(64, OPEN, true), 0, DONE, 14, 48),
         (send(128, OPEN, false), 0, DONE, 14, 48),
