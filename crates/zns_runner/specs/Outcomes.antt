@@ -1,6 +1,6 @@
 -- What each status of the program means.
 use Rattle.std.specs.Prelude.{◌≡◌, ℕ, ◌+◌, ◌^◌, List, Option, Some, ◌⊎◌}
-use Rattle.zone_model.specs.Sessions.{Recorded, spelling, merge, own_order}
+use Rattle.zone_model.specs.Sessions.{Recorded, IsSession, spelling, merge, own_order}
 use Rattle.zone_model.specs.Laws.{IsKept}
 use Rattle.zns_io.specs.Faults.{Rose}
 use Rattle.zns_io.specs.Told.{Gains}
@@ -11,7 +11,7 @@ use Rattle.session_file.specs.declared.file_err.FileErr.TheVariants.{Bad, Large}
 use Rattle.zns_runner.specs.declared.status.Status.{Status}
 use Rattle.zns_runner.specs.declared.status.Status.TheVariants as status
 use Rattle.zns_runner.specs.declared.task.Task.{Task}
-use Rattle.zns_runner.specs.Tasks.{words_for, Takes, IsOutputFor}
+use Rattle.zns_runner.specs.Tasks.{words_for, IsOutputFor}
 use Rattle.zns_runner.specs.Inputs.{IsTaken, IsRefusal, IsRefusalOf}
 
 -- what the source and the sink tell at one moment: the bytes still to come, the bytes taken, and how many calls failed
@@ -30,7 +30,7 @@ pub record Finishes (words : List (List ℕ)) (before now : Streams) : Type 0 wh
   pub task : Task
   pub asked : words ≡ words_for task
   pub session : Recorded
-  pub takes : Takes task session
+  pub valid : IsSession session
   pub read : ReadsAll before.left now.left (spelling session)
   pub output : List ℕ
   pub made : IsOutputFor task session output
@@ -42,7 +42,7 @@ pub record StopsWriting (words : List (List ℕ)) (before now : Streams) : Type 
   pub task : Task
   pub asked : words ≡ words_for task
   pub session : Recorded
-  pub takes : Takes task session
+  pub valid : IsSession session
   pub read : ReadsAll before.left now.left (spelling session)
   pub output : List ℕ
   pub made : IsOutputFor task session output
@@ -59,7 +59,7 @@ pub record WritesNothing (before now : Streams) : Type 0 where
 pub record Refuses (words : List (List ℕ)) (before now : Streams) (e : FileErr) : Type 0 where
   pub task : Task
   pub asked : words ≡ words_for task
-  pub refusal : IsRefusalOf task before.left e
+  pub refusal : IsRefusalOf before.left e
   pub nothing : WritesNothing before now
 
 -- What a status says of a run, by its words and by what the source and the sink told before and tell now.
@@ -72,18 +72,18 @@ Means words before now status.WriteFault = StopsWriting words before now
 Means words before now (status.BadFile reason offset) = Refuses words before now (Bad reason offset)
 Means words before now (status.TooLarge which number) = Refuses words before now (Large which number)
 
--- The answer that an input calls for: Ok where the task takes it, else its refusal.
-abbrev pub CallsFor : Task → List ℕ → Status → Type 0
-CallsFor t bytes status.Ok = IsTaken t bytes
-CallsFor t bytes status.NoMemory = ⊥
-CallsFor t bytes status.Usage = ⊥
-CallsFor t bytes status.ReadFault = ⊥
-CallsFor t bytes status.WriteFault = ⊥
-CallsFor t bytes (status.BadFile reason offset) = IsRefusal t bytes (Bad reason offset)
-CallsFor t bytes (status.TooLarge which number) = IsRefusal t bytes (Large which number)
+-- The answer that an input calls for: Ok where it spells a session, else its refusal.
+abbrev pub CallsFor : List ℕ → Status → Type 0
+CallsFor bytes status.Ok = IsTaken bytes
+CallsFor bytes status.NoMemory = ⊥
+CallsFor bytes status.Usage = ⊥
+CallsFor bytes status.ReadFault = ⊥
+CallsFor bytes status.WriteFault = ⊥
+CallsFor bytes (status.BadFile reason offset) = IsRefusal bytes (Bad reason offset)
+CallsFor bytes (status.TooLarge which number) = IsRefusal bytes (Large which number)
 
 -- Where neither count rises, the answer is the one that the input calls for, unless memory runs out.
 abbrev pub IsComplete : List (List ℕ) → Streams → Streams → Status → Type 0
-IsComplete words before now result = (t : Task) (bytes : List ℕ) (answer : Status) → words ≡ words_for t → before.left ≡ Some bytes → CallsFor t bytes answer
+IsComplete words before now result = (t : Task) (bytes : List ℕ) (answer : Status) → words ≡ words_for t → before.left ≡ Some bytes → CallsFor bytes answer
     → ¬ (Rose before.source_faults now.source_faults) → ¬ (Rose before.sink_faults now.sink_faults)
     → (result ≡ answer) ⊎ (result ≡ status.NoMemory)

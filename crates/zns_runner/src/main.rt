@@ -2,7 +2,6 @@
 //! the session is shown there as text.
 #![tactic(auto)]
 
-mod built;
 mod serving;
 mod showing;
 mod status;

@@ -3,7 +3,7 @@ ghost use Rattle.zone_model.specs.Replies.{descriptors};
 ghost use Rattle.drive_rules.specs.Reports.{bytes_of_all, changed_page};
 ghost use Rattle.zone_model.specs.Sessions.{IsAct, own_order, result_bytes};
 ghost use Rattle.solo_drive.specs.Drives.{history, changed_zones};
-ghost use Rattle.zns_runner.specs.Sessions.{IsBuilt, IsBuiltAct, IsOwnResult};
+ghost use Rattle.zns_runner.specs.Sessions.{IsOwnResult};
 ghost use Rattle.zns_runner.specs.Serving.{IsReply, AreReplies};
 
 use session_file::{Session, write_result};
@@ -17,7 +17,6 @@ use zone_model::{Act, Replies, Reply};
 fn serve_act(alloc: Global, drive: &mut Solo, act: Act) -> Result<Reply, NoMemory>
     requires spare { 0 < drive.old.spare }
     requires act { IsAct drive.old.geometry act }
-    requires built { IsBuiltAct act }
     ensures acts { OnOk result (drive.new.acts ≡ drive.old.acts ++ act ∷ []) }
     ensures spare { OnOk result (drive.new.spare + 1 ≡ drive.old.spare) }
     ensures geometry { drive.new.geometry ≡ drive.old.geometry }
@@ -43,7 +42,6 @@ fn serve_acts(alloc: Global, drive: &mut Solo, acts: Vec<Act>) -> Result<Replies
     requires fresh { drive.old.acts ≡ [] }
     requires room { drive.old.spare ≡ length acts.items }
     requires acts { All (IsAct drive.old.geometry) acts.items }
-    requires built { All IsBuiltAct acts.items }
     ensures acts { OnOk result (drive.new.acts ≡ acts.items) }
     ensures geometry { drive.new.geometry ≡ drive.old.geometry }
     ensures replies { IfOk result (λ r. AreReplies drive.old.geometry acts.items r.replies) }
@@ -90,7 +88,6 @@ fn result_of(alloc: Global, drive: &Solo, replies: &Replies) -> Result<Bytes, No
 
 /// What a session gives in the order of its file: the whole result file.
 pub fn serve(alloc: Global, session: Session) -> Result<Bytes, NoMemory>
-    requires { IsBuilt session }
     ensures { IfOk result (IsOwnResult session) }
 {
     let (geometry, acts) = session.into_parts();

@@ -1,26 +1,19 @@
-ghost use Rattle.std.specs.Prelude.{◌≡◌, ◌↔◌, ◌≤◌, ◌^◌, length};
-ghost use Rattle.zns_runner.specs.Tasks.{AskNothing};
+ghost use Rattle.std.specs.Prelude.{◌≡◌, ◌↔◌, ◌≤◌, ◌^◌, length, IfOk};
+ghost use Rattle.zns_runner.specs.Tasks.{AskNothing, IsOutputFor};
 ghost use Rattle.zns_runner.specs.Outcomes.{moment, Means, IsComplete};
-ghost use Rattle.zns_runner.specs.Making.{Makes, MakesOutput, GivesOutput};
+ghost use Rattle.zns_runner.specs.Making.{MakesOutput, GivesOutput};
 
-use crate::built::is_built;
 use crate::serving::serve;
 use crate::showing::show;
 use crate::status::Status;
 use crate::task::{Task, task_of};
 use crate::word::Word;
-use session_file::{FileErr, Reason, Session, Which, read};
+use session_file::{FileErr, Session, Which, read};
 use std::alloc::Global;
-use zns_io::{Bytes, ReadErr, Sink, Source, read_all, write_all};
+use zns_io::{Bytes, NoMemory, ReadErr, Sink, Source, read_all, write_all};
 
 // No input is longer.
 const GREATEST_INPUT: u64 = 1 << 29;
-
-// The session is not served yet.
-const NOT_BUILT: FileErr = FileErr::Bad {
-    reason: Reason::NotBuilt,
-    offset: 0,
-};
 
 // The input is longer than the longest.
 const TOO_LONG: Status = Status::TooLarge {
@@ -29,13 +22,12 @@ const TOO_LONG: Status = Status::TooLarge {
 };
 
 // What a task makes of a session.
-fn make(alloc: Global, task: Task, session: Session) -> Result<Bytes, FileErr>
-    ensures { Makes task session result }
+fn make(alloc: Global, task: Task, session: Session) -> Result<Bytes, NoMemory>
+    ensures { IfOk result (IsOutputFor task session) }
 {
     match task {
-        Task::One if !is_built(session.geometry(), session.acts()) => Err(NOT_BUILT),
-        Task::One => Ok(serve(alloc, session)?),
-        Task::Show => Ok(show(alloc, &session)?),
+        Task::One => serve(alloc, session),
+        Task::Show => show(alloc, &session),
     }
 }
 
@@ -45,7 +37,7 @@ fn output_for(alloc: Global, task: Task, input: &[u8]) -> Result<Bytes, FileErr>
     ensures { MakesOutput task input.now result }
 {
     let session = read(alloc, input)?;
-    make(alloc, task, session)
+    Ok(make(alloc, task, session)?)
 }
 
 // What a task makes of all that a source gives.

@@ -1,4 +1,4 @@
-use super::{FIRST, PLAIN, session};
+use super::sessions::one_write;
 use crate::status::Status;
 use crate::top::top_plain;
 use crate::words::words;
@@ -52,7 +52,7 @@ fn words_that_are_no_text(rt: HostRuntime) -> Result<(), Fail> {
         (&[b"zns_runner", b"one"], Status::Ok, 0, 0, 4_388),
     ];
     for (all, status, number, left, written) in rows {
-        let file = session(alloc, PLAIN, &[FIRST])?;
+        let file = one_write(alloc)?;
         let mut source = SureSource::new(Bytes::from_vec(file), 100);
         let mut sink = SureSink::new(alloc, 20_000, 1_000)?;
         let words = words(&(Arguments { all }, alloc))?;

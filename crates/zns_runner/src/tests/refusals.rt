@@ -1,12 +1,13 @@
-use super::{FIRST, PLAIN, put, run_on, session};
+use super::sessions::one_write;
+use super::{put, run_on};
 use crate::status::Status;
 use session_file::{Reason, Which};
 use std::alloc::Global;
 use std::test::Fail;
 
 // The session of one Write and one byte after it, with other bytes at a place, cut to a length.
-fn damaged(alloc: Global, place: u8, new: &[u8], len: usize) -> Result<Vec<u8>, Fail> {
-    let mut file = session(alloc, PLAIN, &[FIRST])?;
+fn damaged(alloc: Global, place: usize, new: &[u8], len: usize) -> Result<Vec<u8>, Fail> {
+    let mut file = one_write(alloc)?;
     file.push(0)?;
     put(&mut file, place, new);
     file.truncate(len);
@@ -25,7 +26,7 @@ fn large(which: Which, number: u64) -> Status {
 fn damaged_files_are_refused_by_name_and_place(rt: HostRuntime) -> Result<(), Fail> {
     let alloc = rt.alloc();
     // a place, the bytes that are put there, the length of the file, and the status
-    let rows: [(u8, &[u8], usize, Status); 10] = [
+    let rows: [(usize, &[u8], usize, Status); 10] = [
         (0, b"Z", 0, bad(Reason::Short, 0)),
         (0, b"Z", 63, bad(Reason::Short, 63)),
         (0, b"Z", 600, bad(Reason::Short, 600)),

@@ -1,12 +1,13 @@
-use super::{FIRST, PLAIN, put, run_on, session};
+use super::sessions::one_write;
+use super::{put, run_on};
 use crate::status::Status;
 use std::test::Fail;
 
-// A session with limits and a random write area, which isn't served yet.
+// A session with limits, on a drive that has random write areas.
 #[test]
 fn a_session_is_shown(rt: HostRuntime) -> Result<(), Fail> {
     let alloc = rt.alloc();
-    let mut file = session(alloc, PLAIN, &[FIRST])?;
+    let mut file = one_write(alloc)?;
     put(
         &mut file,
         32,
