@@ -1,5 +1,6 @@
 mod arguments;
 mod crowds;
+mod kinds;
 mod managing;
 mod refusals;
 mod reporting;

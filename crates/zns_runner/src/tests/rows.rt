@@ -44,6 +44,8 @@ pub const READ_ONLY_ZONE: u16 = 0x41ba;
 
 pub const INVALID_WRITE: u16 = 0x41bc;
 
+pub const TOO_MANY_ACTIVE: u16 = 0x01bd;
+
 pub const INVALID_TRANSITION: u16 = 0x41bf;
 
 // States, as a descriptor has them.
@@ -58,6 +60,8 @@ pub const CLOSED: u8 = 0x40;
 pub const READ_ONLY: u8 = 0xd0;
 
 pub const FULL: u8 = 0xe0;
+
+pub const OFFLINE: u8 = 0xf0;
 
 // The pointer of a zone that has none.
 pub const NONE: u64 = u64::MAX;

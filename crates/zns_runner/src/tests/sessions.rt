@@ -92,6 +92,8 @@ pub const OPEN: u8 = 0x03;
 
 pub const RESET: u8 = 0x04;
 
+pub const TO_OFFLINE: u8 = 0x05;
+
 pub const FLUSH_TO: u8 = 0x11;
 
 // One block of 11h, at LBA 0.
