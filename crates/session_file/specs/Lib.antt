@@ -6,3 +6,4 @@ pub mod Results
 pub mod Orders
 pub mod ReasonTexts
 pub mod WhichTexts
+pub mod Laws

@@ -40,9 +40,6 @@ pub enum Reason {
 
     /// An order names a queue that has no further command.
     ResultOrder,
-
-    /// A part of the format that isn't built.
-    NotBuilt,
 }
 
 impl fmt::Display for Reason {
@@ -64,7 +61,6 @@ impl fmt::Display for Reason {
             Reason::ResultMagic => "ResultMagic",
             Reason::ResultCount => "ResultCount",
             Reason::ResultOrder => "ResultOrder",
-            Reason::NotBuilt => "NotBuilt",
         })
     }
 }

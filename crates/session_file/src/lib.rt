@@ -4,6 +4,7 @@
 mod fields;
 mod file_err;
 mod header;
+pub mod laws;
 mod order;
 mod ordering;
 mod putting;
