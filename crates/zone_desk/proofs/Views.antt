@@ -1,0 +1,114 @@
+-- What stays of the views where one changes, or one is added.
+use Rattle.std.proofs.Common.{◌≡◌, ◌≢◌, ℕ, zero, suc, ◌+◌, ◌<◌, ◌≤◌, ◌⊎◌, List, [], ◌∷◌, ◌++◌, length, set, Option, Some, None, refl, ap, sym, ◌∙◌, subst, arith, inl, inr, ⊎_elim}
+use mathlib.Core.Option.{some, some-injective, some-ne-none}
+use lib.ListN.{get_elem?}
+use Rattle.atomic_table.proofs.Lists.{at_set, at_longer, set_else}
+use Rattle.zone_desk.specs.Rules.{Alone, IsOut, spares}
+use Rattle.zone_desk.specs.declared.sight.Kind.TheVariants.{Queue}
+use Rattle.zone_desk.specs.declared.sight.Sight.{Sight}
+
+-- ---- places of a list
+
+module _ {A : Type 0} where
+  pub at_within : (l : List A) (i : ℕ) (a : A) → get_elem? l i ≡ some a → i < length l
+  at_within [] i a e = absurd (some-ne-none a (sym e))
+  at_within (x ∷ xs) zero a e = omega arith
+  at_within (x ∷ xs) (suc i) a e = let h = at_within xs i a e in omega arith
+
+  pub at_same : (l : List A) (i : ℕ) (a b : A) → get_elem? l i ≡ some a → get_elem? l i ≡ some b → a ≡ b
+  at_same l i a b e f = some-injective a b (sym e ∙ f)
+
+  pub set_at : (l : List A) (i : ℕ) (a b : A) → get_elem? l i ≡ some a → get_elem? (set l i b) i ≡ some b
+  set_at [] i a b e = absurd (some-ne-none a (sym e))
+  set_at (x ∷ xs) zero a b e = refl
+  set_at (x ∷ xs) (suc i) a b e = set_at xs i a b e
+
+  pub at_end : (l : List A) (a b : A) (j : ℕ) → get_elem? (l ++ a ∷ []) j ≡ some b → (get_elem? l j ≡ some b) ⊎ ((j ≡ length l) × (a ≡ b))
+  at_end [] a b zero e = inr (refl, some-injective a b e)
+  at_end [] a b (suc j) e = absurd (some-ne-none b (sym e))
+  at_end (x ∷ xs) a b zero e = inl e
+  at_end (x ∷ xs) a b (suc j) e = ⊎_elim inl (λ (t : (j ≡ length xs) × (a ≡ b)). inr ((let h = t.0 in omega arith), t.1)) (at_end xs a b j e)
+
+  -- what holds of each other member, and of the new one, holds of each
+  pub each_set : (P : ℕ → A → Type 0) (l : List A) (id : ℕ) (w : A) → ((j : ℕ) (u : A) → j ≢ id → get_elem? l j ≡ some u → P j u) → P id w
+      → (j : ℕ) (u : A) → get_elem? (set l id w) j ≡ some u → P j u
+  each_set P l id w others mine j u e =
+      ⊎_elim (λ (t : (j ≡ id) × (w ≡ u)). subst (λ (k : ℕ). P k u) (sym t.0) (subst (P id) t.1 mine)) (λ (t : (j ≢ id) × (get_elem? l j ≡ some u)). others j u t.0 t.1) (at_set l id j w u e)
+
+  pub each_end : (P : ℕ → A → Type 0) (l : List A) (w : A) → ((j : ℕ) (u : A) → get_elem? l j ≡ some u → P j u) → P (length l) w
+      → (j : ℕ) (u : A) → get_elem? (l ++ w ∷ []) j ≡ some u → P j u
+  each_end P l w others mine j u e =
+      ⊎_elim (λ (t : get_elem? l j ≡ some u). others j u t) (λ (t : (j ≡ length l) × (w ≡ u)). subst (λ (k : ℕ). P k u) (sym t.0) (subst (P (length l)) t.1 mine)) (at_end l w u j e)
+
+-- ---- the sum of the spares
+
+pub spares_set : (l : List Sight) (i : ℕ) (v w : Sight) → get_elem? l i ≡ some v → spares (set l i w) + v.spare ≡ spares l + w.spare
+spares_set [] i v w e = absurd (some-ne-none v (sym e))
+spares_set (x ∷ xs) zero v w e = let is : x.spare ≡ v.spare = ap (λ (m : Sight). m.spare) (some-injective x v e) in omega arith
+spares_set (x ∷ xs) (suc i) v w e = let r = spares_set xs i v w e in omega arith
+
+pub spares_end : (l : List Sight) (w : Sight) → spares (l ++ w ∷ []) ≡ spares l + w.spare
+spares_end [] w = omega arith
+spares_end (x ∷ xs) w = let r = spares_end xs w in omega arith
+
+pub spare_le : (l : List Sight) (i : ℕ) (v : Sight) → get_elem? l i ≡ some v → v.spare ≤ spares l
+spare_le [] i v e = absurd (some-ne-none v (sym e))
+spare_le (x ∷ xs) zero v e = let is : x.spare ≡ v.spare = ap (λ (m : Sight). m.spare) (some-injective x v e) in omega arith
+spare_le (x ∷ xs) (suc i) v e = let r = spare_le xs i v e in omega arith
+
+-- ---- one pass for each queue
+
+-- a pass that stays of its queue, or is none any more, keeps each queue's pass alone
+pub alone_set : (views : List Sight) (id : ℕ) (v w : Sight) → get_elem? views id ≡ some v → (w.kind ≡ Queue → (v.kind ≡ Queue) × (w.queue ≡ v.queue)) → Alone views → Alone (set views id w)
+alone_set views id v w at same al i j a b ea eb ka kb q =
+    ⊎_elim
+    (λ (s : (i ≡ id) × (w ≡ a)). ⊎_elim
+    (λ (t : (j ≡ id) × (w ≡ b)). s.0 ∙ sym t.0)
+    (λ (t : (j ≢ id) × (get_elem? views j ≡ some b)).
+    let k = same (ap (λ (x : Sight). x.kind) s.1 ∙ ka) in
+    s.0 ∙ al id j v b at t.1 k.0 kb (sym k.1 ∙ ap (λ (x : Sight). x.queue) s.1 ∙ q))
+    (at_set views id j w b eb))
+    (λ (s : (i ≢ id) × (get_elem? views i ≡ some a)). ⊎_elim
+    (λ (t : (j ≡ id) × (w ≡ b)).
+    let k = same (ap (λ (x : Sight). x.kind) t.1 ∙ kb) in
+    al i id a v s.1 at ka k.0 (q ∙ sym (ap (λ (x : Sight). x.queue) t.1) ∙ k.1) ∙ sym t.0)
+    (λ (t : (j ≢ id) × (get_elem? views j ≡ some b)). al i j a b s.1 t.1 ka kb q)
+    (at_set views id j w b eb))
+    (at_set views id i w a ea)
+
+-- so does a new one whose queue no pass has
+pub alone_end : (views : List Sight) (w : Sight) → ((j : ℕ) (u : Sight) → get_elem? views j ≡ some u → u.kind ≡ Queue → u.queue ≢ w.queue) → Alone views → Alone (views ++ w ∷ [])
+alone_end views w new al i j a b ea eb ka kb q =
+    ⊎_elim
+    (λ (s : get_elem? views i ≡ some a). ⊎_elim
+    (λ (t : get_elem? views j ≡ some b). al i j a b s t ka kb q)
+    (λ (t : (j ≡ length views) × (w ≡ b)). absurd (new i a s ka (q ∙ sym (ap (λ (x : Sight). x.queue) t.1))))
+    (at_end views w b j eb))
+    (λ (s : (i ≡ length views) × (w ≡ a)). ⊎_elim
+    (λ (t : get_elem? views j ≡ some b). absurd (new j b t kb (sym (ap (λ (x : Sight). x.queue) s.1 ∙ q))))
+    (λ (t : (j ≡ length views) × (w ≡ b)). s.0 ∙ sym t.0)
+    (at_end views w b j eb))
+    (at_end views w a i ea)
+
+-- ---- who holds the word
+
+pub out_new : (views : List Sight) (id : ℕ) (v w : Sight) → get_elem? views id ≡ some v → w.journal ≢ None → IsOut (Some id) (set views id w)
+out_new views id v w at has = (w, set_at views id v w at, has)
+
+-- a seat that has no journal may change
+pub out_set : (holder : Option ℕ) (views : List Sight) (id : ℕ) (v w : Sight) → get_elem? views id ≡ some v → v.journal ≡ None → IsOut holder views → IsOut holder (set views id w)
+out_set None views id v w at none o = tt
+out_set (Some k) views id v w at none o = (
+  o.0,
+  set_else views id k w (λ (e : k ≡ id). o.2 (ap (λ (x : Sight). x.journal) (at_same views id o.0 v (subst (λ (j : ℕ). get_elem? views j ≡ some o.0) e o.1) at) ∙ none)) ∙ o.1,
+  o.2,
+)
+
+pub out_end : (holder : Option ℕ) (views : List Sight) (w : Sight) → IsOut holder views → IsOut holder (views ++ w ∷ [])
+out_end None views w o = tt
+out_end (Some k) views w o = (o.0, at_longer views (w ∷ []) k o.0 o.1, o.2)
+
+-- the seat after the last holds nothing
+pub out_within : (holder : Option ℕ) (views : List Sight) → IsOut holder views → holder ≢ Some (length views)
+out_within None views o e = absurd (cc e)
+out_within (Some k) views o e = let is : k ≡ length views = cc e in let near = at_within views k o.0 o.1 in absurd (omega arith)

@@ -1,0 +1,5 @@
+pub mod Stocks
+pub mod Rules
+pub mod Sights
+pub mod Plays
+pub mod Passes

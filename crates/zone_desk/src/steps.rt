@@ -1,0 +1,69 @@
+//! The steps that are told what they add.
+ghost use Rattle.std.specs.Prelude.{◌≡◌, ◌≢◌, ◌<◌, ◌≤◌, [], None};
+ghost use Rattle.solo_drive.specs.Drives.{act_of};
+ghost use Rattle.zone_desk.specs.Sights.{committed, made, queue_sight};
+ghost use Rattle.zone_desk.specs.declared.sight.Kind.TheVariants.{Main, Queue};
+ghost use Rattle.zone_desk.specs.declared.sight.Standing.TheVariants.{Free};
+ghost use mathlib.Core.Option.{some};
+ghost use lib.ListN.{get_elem?};
+
+use crate::plan::Plan;
+use crate::plays::{Adding, Commit, Law, Make, Seating};
+use crate::sight::Sight;
+use crate::stock::Stock;
+use atomic_table::{Seat, Shared};
+use sqe_codec::Sqe;
+use std::snapshot::Snapshot;
+use zns_io::Bytes;
+
+/// Counts the acts in the journal.
+pub(crate) const HISTORY: usize = 0;
+
+/// Is 1 while a seat has the stock.
+pub(crate) const LOCK: usize = 1;
+
+/// Where the stock lies.
+pub(crate) const STOCK: usize = 0;
+
+pub(crate) type Board = Shared<Option<Stock>, Sight, Plan, Law>;
+
+pub(crate) type Place = Seat<Option<Stock>, Sight>;
+
+/// The seat of a new pass.
+pub(crate) fn seat_for<D: Seating>(board: &Board, seat: &mut Place, queue: u16, room: u32) -> Place
+    requires table { seat.old.table_id ≡ board.now.table_id }
+    requires words { 0 < board.now.table_id.words }
+    requires picks { (D.queue ≡ queue) × (D.room ≡ room) }
+    requires main { seat.old.me.0.kind ≡ Main }
+    requires queue { get_elem? seat.old.me.0.standings queue ≡ some Free }
+    requires room { room ≤ seat.old.me.0.spare }
+    ensures table { seat.new.table_id ≡ seat.old.table_id }
+    ensures seat { seat.new.me ≡ (made seat.old.me.0 queue room, seat.old.me.1) }
+    ensures new_table { result.table_id ≡ seat.old.table_id }
+    ensures new_seat { result.me
+        ≡ (queue_sight seat.old.me.0.geometry queue seat.old.me.0.seen room, []) }
+{
+    board.split_seat::<Make<D>>(seat)
+}
+
+/// Adds an act to the history.
+pub(crate) fn commit<D: Adding>(
+    board: &Board,
+    seat: &mut Place,
+    queue: u16,
+    sqe: Sqe,
+    payload: Snapshot<Bytes>,
+)
+    requires table { seat.old.table_id ≡ board.now.table_id }
+    requires words { 0 < board.now.table_id.words }
+    requires picks { D.act ≡ act_of queue sqe payload.value }
+    requires kind { seat.old.me.0.kind ≡ Queue }
+    requires queue { queue ≡ seat.old.me.0.queue }
+    requires spare { 0 < seat.old.me.0.spare }
+    requires journal { seat.old.me.0.journal ≢ None }
+    ensures table { seat.new.table_id ≡ seat.old.table_id }
+    ensures seat { seat.new.me
+        ≡ (committed seat.old.me.0 (act_of queue sqe payload.value), seat.old.me.1) }
+{
+    board.fetch_add::<Commit<D>>(seat, HISTORY, 1);
+}
