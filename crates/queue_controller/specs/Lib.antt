@@ -1,0 +1,4 @@
+pub mod Serving
+pub mod Replies
+pub mod Jobs
+pub mod Sessions

@@ -1,0 +1,13 @@
+/// What is called while commands are served. A gate can change no answer.
+pub trait Gate {
+    /// Comes before a command's first lock word is taken, with the number of the command in its
+    /// queue, from 0.
+    fn before(&self, queue: u16, number: u32);
+}
+
+/// Does nothing.
+pub struct FreeGate;
+
+impl Gate for FreeGate {
+    fn before(&self, _queue: u16, _number: u32) {}
+}

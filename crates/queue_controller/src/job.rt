@@ -1,0 +1,68 @@
+//! One queue's worker.
+ghost use Rattle.std.specs.Prelude.{◌≡◌, ◌<◌, None};
+ghost use Rattle.queue_controller.specs.Serving.{Serves};
+ghost use Rattle.queue_controller.specs.Jobs.{IsPrepared, IsReplyTo, Starts, Finishes};
+
+use crate::gate::Gate;
+use crate::serving::serve;
+use std::collections::VecDeque;
+use std::sync::Wait;
+use zns_io::Bytes;
+use zone_desk::{Desk, QueuePass};
+use zone_model::{Act, Reply};
+
+/// An act that is to be served, with room for what it reads.
+#[derive(Drop)]
+pub struct Prepared {
+    pub act: Act,
+    pub out: Vec<u8>,
+}
+
+/// A worker's pass, the acts that it has yet to serve, and the replies to those that it served.
+#[derive(Drop)]
+pub struct Job {
+    pub pass: QueuePass,
+    pub left: VecDeque<Prepared>,
+    pub replies: Vec<Reply>,
+}
+
+// Serves one prepared act of the pass's queue.
+fn reply_to<R: Wait, G: Gate>(
+    rt: &R,
+    desk: &Desk,
+    pass: &mut QueuePass,
+    prepared: Prepared,
+    gate: &G,
+) -> Reply
+    requires desk { pass.old.desk ≡ desk.now }
+    requires free { pass.old.sight.journal ≡ None }
+    requires spare { 0 < pass.old.sight.spare }
+    requires prepared { IsPrepared desk.now.geometry pass.old.sight.queue prepared }
+    ensures desk { pass.new.desk ≡ pass.old.desk }
+    ensures served { Serves pass.old.sight prepared.act
+        (IsReplyTo desk.now.geometry prepared.act result) pass.new.sight }
+{
+    let Prepared { act, mut out } = prepared;
+    let Act {
+        queue: _,
+        sqe,
+        payload,
+    } = act;
+    let posted = serve(rt, desk, pass, sqe, payload, &mut out, gate);
+    out.truncate(posted.len as usize);
+    Reply {
+        entries: posted.entries,
+        read: Bytes::from_vec(out),
+    }
+}
+
+/// Serves all acts of a job, in their order.
+pub(crate) fn work<R: Wait, G: Gate>(rt: &R, desk: &Desk, job: &mut Job, gate: &G)
+    requires { Starts desk.now job.old }
+    ensures { Finishes desk.now job.old job.new }
+{
+    while let Some(prepared) = job.left.pop_front() {
+        let reply = reply_to(rt, desk, &mut job.pass, prepared, gate);
+        job.replies.push_reserved(reply);
+    }
+}

@@ -1,0 +1,17 @@
+//! Serves commands over a desk that several queues share, and whole sessions with a worker for each
+//! queue.
+#![tactic(auto)]
+
+mod closing;
+mod gate;
+mod job;
+mod opening;
+mod serving;
+mod session;
+#[cfg(test)]
+mod tests;
+
+pub use closing::Outcome;
+pub use gate::{FreeGate, Gate};
+pub use serving::serve;
+pub use session::run_session;
