@@ -1,9 +1,20 @@
 pub mod Orders
 pub mod ServedReplies
 pub mod Sizes
+pub mod Comparisons
+pub mod Mixing
+pub mod Iterated
 pub mod Inputs
+pub mod Checked
+pub mod Called
 pub mod Ends
+pub mod ByCount
+pub mod Made
+pub mod SpelledNumbers
+pub mod Naming
 pub mod Results
 pub mod ShownActs
 pub mod Arguments
+pub mod MadeActs
+pub mod Counted
 mod TextExamples

@@ -18,7 +18,7 @@ use Rattle.zone_model.proofs.ExampleDrive.{drive, filled}
 use Rattle.zone_model.proofs.ExampleDrive as act
 use Rattle.zns_runner.specs.Showing.{shown}
 use Rattle.zns_runner.specs.Summaries.{summary}
-use Rattle.zns_runner.specs.Generating.{made, made_acts}
+use Rattle.zns_runner.specs.Generating.{next, made_command, made_act, made_acts, made}
 use Rattle.zns_runner.specs.Scripts.{write, append, put, open_window, flush_to, reset, report, scripted}
 
 -- a session of one Write
@@ -47,19 +47,22 @@ abbrev pub made_from_1 : List Act
 made_from_1 = made_acts 8 0 1
 
 made_from_1-queues : map (λ (a : Act). a.queue) made_from_1 ≡ 3 ∷ 1 ∷ 1 ∷ 1 ∷ 2 ∷ 2 ∷ 1 ∷ 1 ∷ []
+unfolding next made_command made_act
 made_from_1-queues = refl
 
 made_from_1-cids : map (λ (a : Act). cid_of a.sqe.bytes) made_from_1 ≡ 0 ∷ 1 ∷ 2 ∷ 3 ∷ 4 ∷ 5 ∷ 6 ∷ 7 ∷ []
+unfolding next made_command made_act
 made_from_1-cids = refl
 
 made_from_1-commands : map command_of made_from_1
     ≡ cmd.Write 1 49254 1 ∷ cmd.Append 1 40960 1 ∷ cmd.Write 1 45170 1 ∷ cmd.Append 1 40960 1
     ∷ cmd.Receive 1 16384 512 0 0 false ∷ cmd.Send 1 57344 4 false false ∷ cmd.Append 1 16384 1 ∷ cmd.Append 1 61440 1 ∷ []
-unfolding io_command
+unfolding io_command next made_command made_act
 made_from_1-commands = refl
 
 made_from_1-bytes : map (λ (a : Act). a.payload) made_from_1
     ≡ filled 1 230 ∷ filled 1 246 ∷ filled 1 242 ∷ filled 1 12 ∷ [] ∷ [] ∷ filled 1 160 ∷ filled 1 18 ∷ []
+unfolding next made_command made_act
 made_from_1-bytes = refl
 
 -- a window is opened, written and flushed; an append to it is refused; and the zone is reset

@@ -1,26 +1,79 @@
 -- Which inputs are taken, and with what the others are refused.
-use Rattle.std.specs.Prelude.{◌≡◌, ℕ, ◌+◌, ◌^◌, nat_lt, List, ◌∷◌, length, Option, Some, None, ⊤}
+use Rattle.std.specs.Prelude.{◌≡◌, ℕ, ◌+◌, ◌≤◌, ◌^◌, nat_lt, List, [], ◌∷◌, ◌++◌, length, Option, Some}
 use Rattle.zns_types.specs.Rows.{Row, first_holding}
 use Rattle.zone_model.specs.Sessions.{Recorded, IsSession, spells}
 use Rattle.session_file.specs.declared.file_err.Which.TheVariants as which
 use Rattle.session_file.specs.declared.file_err.FileErr.{FileErr}
-use Rattle.session_file.specs.FileRules.{large, file_rows}
+use Rattle.session_file.specs.FileRules.{large, front_rows, file_rows}
+use Rattle.session_file.specs.Orders.{result_rows}
+use Rattle.session_file.specs.Places.{session_in, session_end}
+use Rattle.zns_runner.specs.declared.task.Task.{Task}
+use Rattle.zns_runner.specs.declared.task.Task.TheVariants as the_task
+use Rattle.zns_io.specs.Reading.{ReadsAll}
+use Rattle.zns_runner.specs.Checking.{IsSame, IsUnlike}
 
--- the rules of an input, in their order: it has at most 2^29 bytes, and then those of a session's bytes
-abbrev pub input_rows : List ℕ → List (Row FileErr)
-input_rows bytes = large which.Input (2 ^ 29 + 1) (nat_lt (2 ^ 29) (length bytes)) ∷ file_rows bytes
+-- ---- what a task reads
 
--- the bytes spell a session: every session is taken
-pub record IsTaken (bytes : List ℕ) : Type 0 where
+-- What a task takes of the bytes that a source still has, where it tells them: all of them, or none where it reads nothing.
+abbrev pub input_of : Task → Option (List ℕ) → Option (List ℕ)
+input_of the_task.One left = left
+input_of the_task.Check left = left
+input_of the_task.Show left = left
+input_of (the_task.Gen number count) left = Some []
+
+-- The source was read to its end, and these bytes are all of it. With `gen` nothing was read.
+abbrev pub Reads : Task → Option (List ℕ) → Option (List ℕ) → List ℕ → Type 0
+Reads the_task.One left now input = ReadsAll left now input
+Reads the_task.Check left now input = ReadsAll left now input
+Reads the_task.Show left now input = ReadsAll left now input
+Reads (the_task.Gen number count) left now input = (now ≡ left) × (input ≡ [])
+
+-- ---- what it takes
+
+-- an input has at most 2^29 bytes
+abbrev pub input_row : List ℕ → Row FileErr
+input_row bytes = large which.Input (2 ^ 29 + 1) (nat_lt (2 ^ 29) (length bytes))
+
+-- the rules of a session, and nothing after it
+abbrev pub session_rows : List ℕ → List (Row FileErr)
+session_rows bytes = input_row bytes ∷ file_rows bytes
+
+-- the rules of a session, and of an order of its acts after it
+abbrev pub checked_rows : List ℕ → List (Row FileErr)
+checked_rows bytes = input_row bytes ∷ (front_rows bytes ++ result_rows bytes (session_end bytes) (session_in bytes).acts)
+
+-- the rule of a session that is made: it has at most 262,144 commands
+abbrev pub made_rows : ℕ → List (Row FileErr)
+made_rows count = large which.Commands count (nat_lt 262144 count) ∷ []
+
+-- the rules of what a task takes, in their order
+abbrev pub rules_for : Task → List ℕ → List (Row FileErr)
+rules_for the_task.One bytes = session_rows bytes
+rules_for the_task.Check bytes = checked_rows bytes
+rules_for the_task.Show bytes = session_rows bytes
+rules_for (the_task.Gen number count) bytes = made_rows count
+
+-- the input is refused with the first rule that it breaks
+abbrev pub IsRefusal : Task → List ℕ → FileErr → Type 0
+IsRefusal t bytes e = first_holding (rules_for t bytes) ≡ Some e
+
+-- the bytes spell a session
+pub record SpellsSession (bytes : List ℕ) : Type 0 where
   pub session : Recorded
   pub valid : IsSession session
   pub spelled : spells session bytes
 
--- What is said of bytes that are refused: the first rule that they break.
-abbrev pub IsRefusal : List ℕ → FileErr → Type 0
-IsRefusal bytes e = first_holding (input_rows bytes) ≡ Some e
+-- The inputs of which a task makes an output: every session, and for a check every session with its result. A session that
+-- is made goes by its number of commands alone.
+abbrev pub IsTaken : Task → List ℕ → Type 0
+IsTaken the_task.One bytes = SpellsSession bytes
+IsTaken the_task.Check bytes = IsSame bytes
+IsTaken the_task.Show bytes = SpellsSession bytes
+IsTaken (the_task.Gen number count) bytes = count ≤ 262144
 
--- what is said of all that a source tells, if it tells it
-abbrev pub IsRefusalOf : Option (List ℕ) → FileErr → Type 0
-IsRefusalOf None e = ⊤
-IsRefusalOf (Some bytes) e = IsRefusal bytes e
+-- the offset at which a result is found to be another: only a check looks for it
+abbrev pub IsFound : Task → List ℕ → ℕ → Type 0
+IsFound the_task.One bytes offset = ⊥
+IsFound the_task.Check bytes offset = IsUnlike bytes offset
+IsFound the_task.Show bytes offset = ⊥
+IsFound (the_task.Gen number count) bytes offset = ⊥

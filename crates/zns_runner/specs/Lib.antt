@@ -5,10 +5,16 @@ pub mod Generating
 pub mod Scripts
 pub mod Sessions
 pub mod Serving
+pub mod Queues
+pub mod Differences
+pub mod Checking
+pub mod Decimals
 pub mod Tasks
 pub mod Inputs
+pub mod Outputs
 pub mod Outcomes
 pub mod Making
 pub mod Numbers
 pub mod Words
+pub mod Edges
 pub mod Lines

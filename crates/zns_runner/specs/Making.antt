@@ -1,16 +1,22 @@
 -- What the steps of a run make, before anything is written.
-use Rattle.std.specs.Prelude.{ℕ, ◌+◌, ◌^◌, List, Option, Result, Ok, Err, ⊤}
-use Rattle.zone_model.specs.Sessions.{Recorded, IsSession, spelling, spells}
+use Rattle.std.specs.Prelude.{◌≡◌, ℕ, ◌+◌, ◌<◌, ◌≤◌, ◌^◌, ◌↔◌, List, length, Option, Result, Ok, Err, ⊤}
 use Rattle.zns_io.specs.declared.bytes.Bytes.{Bytes}
 use Rattle.zns_io.specs.Faults.{Rose}
-use Rattle.zns_io.specs.Reading.{ReadsAll, ReadsFrontUpTo}
+use Rattle.zns_io.specs.declared.read_err.ReadErr.{ReadErr}
+use Rattle.zns_io.specs.declared.read_err.ReadErr.TheVariants as errors
+use Rattle.zns_io.specs.Reading.{ReadsFrontUpTo}
 use Rattle.session_file.specs.declared.file_err.FileErr.{FileErr}
 use Rattle.session_file.specs.declared.file_err.FileErr.TheVariants.{NoMemory, Bad, Large}
+use Rattle.session_file.specs.declared.file_err.Which.TheVariants as which
+use Rattle.zns_runner.specs.declared.comparing.CompareErr.{CompareErr}
+use Rattle.zns_runner.specs.declared.comparing.CompareErr.TheVariants as compare_err
 use Rattle.zns_runner.specs.declared.status.Status.{Status}
 use Rattle.zns_runner.specs.declared.status.Status.TheVariants as status
 use Rattle.zns_runner.specs.declared.task.Task.{Task}
-use Rattle.zns_runner.specs.Tasks.{IsOutputFor}
-use Rattle.zns_runner.specs.Inputs.{IsRefusal, IsRefusalOf}
+use Rattle.zns_runner.specs.declared.task.Task.TheVariants as the_task
+use Rattle.zns_runner.specs.Inputs.{input_of, Reads}
+use Rattle.zns_runner.specs.Outputs.{IsOutputFor}
+use Rattle.zns_runner.specs.Outcomes.{CallsFor, CallsForOf}
 
 -- how an error in an input is answered
 abbrev pub status_of : FileErr → Status
@@ -18,45 +24,72 @@ status_of NoMemory = status.NoMemory
 status_of (Bad reason offset) = status.BadFile reason offset
 status_of (Large which number) = status.TooLarge which number
 
--- a session is spelled, and this is what the task makes of it
-pub record IsOutput (t : Task) (input bytes : List ℕ) : Type 0 where
-  pub session : Recorded
-  pub valid : IsSession session
-  pub spelled : spells session input
-  pub made : IsOutputFor t session bytes
+-- how a difference is answered
+abbrev pub status_of_difference : CompareErr → Status
+status_of_difference compare_err.NoMemory = status.NoMemory
+status_of_difference (compare_err.Differs offset) = status.Differs offset
 
--- what a task answers to an input
-abbrev pub MakesOutput : Task → List ℕ → Result Bytes FileErr → Type 0
-MakesOutput t input (Ok bytes) = IsOutput t input bytes
-MakesOutput t input (Err NoMemory) = ⊤
-MakesOutput t input (Err (Bad reason offset)) = IsRefusal input (Bad reason offset)
-MakesOutput t input (Err (Large which number)) = IsRefusal input (Large which number)
+-- an input of which no output is made calls for the answer, or memory ran out
+abbrev pub IsCause : Task → List ℕ → Status → Type 0
+IsCause t input status.Ok = ⊥
+IsCause t input status.NoMemory = ⊤
+IsCause t input status.Usage = ⊥
+IsCause t input status.ReadFault = ⊥
+IsCause t input status.WriteFault = ⊥
+IsCause t input (status.BadFile reason offset) = CallsFor t input (status.BadFile reason offset)
+IsCause t input (status.TooLarge which number) = CallsFor t input (status.TooLarge which number)
+IsCause t input (status.Differs offset) = CallsFor t input (status.Differs offset)
+
+-- what a task answers to an input: the output, or the status of a run that makes none
+abbrev pub Makes : Task → List ℕ → Result Bytes Status → Type 0
+Makes t input (Ok output) = IsOutputFor t input output
+Makes t input (Err s) = IsCause t input s
+
+-- a session is not made exactly where it would have too many commands
+abbrev pub MakesByCount : Task → Result Bytes Status → Type 0
+MakesByCount the_task.One result = ⊤
+MakesByCount the_task.Check result = ⊤
+MakesByCount the_task.Show result = ⊤
+MakesByCount (the_task.Gen number count) result = (result ≡ Err (status.TooLarge which.Commands count)) ↔ (262144 < count)
 
 -- ---- what a source gives
 
--- the input was refused
-pub record IsRefused (left now : Option (List ℕ)) (e : FileErr) : Type 0 where
-  pub refusal : IsRefusalOf left e
+-- a task read what it takes, which isn't longer than an input may be
+pub record IsInput (t : Task) (left now : Option (List ℕ)) (input : List ℕ) : Type 0 where
+  pub read : Reads t left now input
+  pub short : length input ≤ 2 ^ 29
+  pub front : ReadsFrontUpTo left now (2 ^ 29 + 1)
+
+-- the input called for the answer
+pub record IsRefused (t : Task) (left now : Option (List ℕ)) (s : Status) : Type 0 where
+  pub cause : CallsForOf t (input_of t left) s
   pub read : ReadsFrontUpTo left now (2 ^ 29 + 1)
 
+-- the input of a task, or why it has none
+abbrev pub GivesInput : Task → Option (List ℕ) → Option (List ℕ) → ℕ → ℕ → Result Bytes ReadErr → Type 0
+GivesInput t left now faults faults_now (Ok input) = IsInput t left now input
+GivesInput t left now faults faults_now (Err errors.NoMemory) = ReadsFrontUpTo left now (2 ^ 29 + 1)
+GivesInput t left now faults faults_now (Err errors.Failed) = ReadsFrontUpTo left now (2 ^ 29 + 1) × Rose faults faults_now
+GivesInput t left now faults faults_now (Err errors.Over) = IsRefused t left now (status.TooLarge which.Input (2 ^ 29 + 1))
+
 -- how a run ends that makes no output
-abbrev pub EndsBefore : Option (List ℕ) → Option (List ℕ) → ℕ → ℕ → Status → Type 0
-EndsBefore left now faults faults_now status.Ok = ⊥
-EndsBefore left now faults faults_now status.NoMemory = ReadsFrontUpTo left now (2 ^ 29 + 1)
-EndsBefore left now faults faults_now status.Usage = ⊥
-EndsBefore left now faults faults_now status.ReadFault = ReadsFrontUpTo left now (2 ^ 29 + 1) × Rose faults faults_now
-EndsBefore left now faults faults_now status.WriteFault = ⊥
-EndsBefore left now faults faults_now (status.BadFile reason offset) = IsRefused left now (Bad reason offset)
-EndsBefore left now faults faults_now (status.TooLarge which number) = IsRefused left now (Large which number)
+abbrev pub EndsBefore : Task → Option (List ℕ) → Option (List ℕ) → ℕ → ℕ → Status → Type 0
+EndsBefore t left now faults faults_now status.Ok = ⊥
+EndsBefore t left now faults faults_now status.NoMemory = ReadsFrontUpTo left now (2 ^ 29 + 1)
+EndsBefore t left now faults faults_now status.Usage = ⊥
+EndsBefore t left now faults faults_now status.ReadFault = ReadsFrontUpTo left now (2 ^ 29 + 1) × Rose faults faults_now
+EndsBefore t left now faults faults_now status.WriteFault = ⊥
+EndsBefore t left now faults faults_now (status.BadFile reason offset) = IsRefused t left now (status.BadFile reason offset)
+EndsBefore t left now faults faults_now (status.TooLarge which number) = IsRefused t left now (status.TooLarge which number)
+EndsBefore t left now faults faults_now (status.Differs offset) = IsRefused t left now (status.Differs offset)
 
--- a session was read whole, and this is what the task makes of it
-pub record IsOutputOf (t : Task) (left now : Option (List ℕ)) (bytes : List ℕ) : Type 0 where
-  pub session : Recorded
-  pub valid : IsSession session
-  pub read : ReadsAll left now (spelling session)
-  pub made : IsOutputFor t session bytes
+-- the task read what it takes, and this is what it makes of it
+pub record IsOutputOf (t : Task) (left now : Option (List ℕ)) (output : List ℕ) : Type 0 where
+  pub input : List ℕ
+  pub read : Reads t left now input
+  pub made : IsOutputFor t input output
 
--- the output for all that a source gives, or how the run ends without it
+-- the output for what a source gives, or how the run ends without it
 abbrev pub GivesOutput : Task → Option (List ℕ) → Option (List ℕ) → ℕ → ℕ → Result Bytes Status → Type 0
-GivesOutput t left now faults faults_now (Ok bytes) = IsOutputOf t left now bytes
-GivesOutput t left now faults faults_now (Err s) = EndsBefore left now faults faults_now s
+GivesOutput t left now faults faults_now (Ok output) = IsOutputOf t left now output
+GivesOutput t left now faults faults_now (Err s) = EndsBefore t left now faults faults_now s

@@ -11,3 +11,4 @@ number_of status.ReadFault = 3
 number_of status.WriteFault = 4
 number_of (status.BadFile what offset) = 5
 number_of (status.TooLarge what number) = 6
+number_of (status.Differs offset) = 7

@@ -1,10 +1,12 @@
 -- The replies to acts that are served one after the other.
-use Rattle.std.specs.Prelude.{◌≡◌, ◌≤◌, ◌^◌, List, [], length, All}
+use Rattle.std.specs.Prelude.{◌≡◌, ◌≤◌, ◌^◌, Bool, List, [], length, All}
 use Rattle.std.specs.List.{flat_map}
 use Rattle.zns_types.specs.declared.fields.GeometryFields.{GeometryFields}
+use Rattle.zns_types.specs.Statuses.{is_success}
 use Rattle.zone_model.specs.declared.act.Act.{Act}
 use Rattle.zone_model.specs.declared.reply.Reply.{Reply}
 use Rattle.zone_model.specs.Places.{Place}
+use Rattle.zone_model.specs.Answers.{status}
 use Rattle.zone_model.specs.Entries.{posted}
 use Rattle.zone_model.specs.Replies.{reply_bytes}
 use Rattle.zone_model.specs.Sessions.{replies_bytes}
@@ -15,6 +17,10 @@ pub record IsReply (g : GeometryFields) (h : List Place) (a : Act) (r : Reply) :
   pub entries : r.entries.items ≡ posted g h a
   pub read : r.read ≡ reply_bytes g h a
   pub short : length r.read ≤ 2 ^ 28
+
+-- whether an act took that is replied to so
+abbrev pub TellsSuccess : Reply → Bool → Type 0
+TellsSuccess r took = (g : GeometryFields) (h : List Place) (a : Act) → IsReply g h a r → took ≡ is_success (status g h a)
 
 -- one reply for each act, and together what is written of the acts
 pub record AreReplies (g : GeometryFields) (acts : List Act) (replies : List Reply) : Type 0 where

@@ -1,21 +1,62 @@
--- What the program is asked for: its words, and what it makes of a session.
-use Rattle.std.specs.Prelude.{◌≡◌, ◌≢◌, ℕ, List, [], ◌∷◌, codes}
-use Rattle.zone_model.specs.Sessions.{Recorded}
-use Rattle.zns_runner.specs.Showing.{shown}
+-- What the program is asked for, by its words.
+use Rattle.std.specs.Prelude.{◌≡◌, ℕ, ◌<◌, ◌^◌, List, [], ◌∷◌, codes, Option, Some, None, if◌then◌else◌, ⊤}
+use Rattle.std.specs.Fmt.{decimal}
+use Rattle.std.specs.Str.{bytes_eq}
 use Rattle.zns_runner.specs.declared.task.Task.{Task}
 use Rattle.zns_runner.specs.declared.task.Task.TheVariants as the_task
-use Rattle.zns_runner.specs.Sessions.{IsOwnResult}
+use Rattle.zns_runner.specs.Decimals.{number_in}
 
 -- the words by which the program is asked for a task
 abbrev pub words_for : Task → List (List ℕ)
 words_for the_task.One = codes "one" ∷ []
+words_for the_task.Check = codes "check" ∷ []
 words_for the_task.Show = codes "show" ∷ []
+words_for (the_task.Gen number count) = codes "gen" ∷ decimal number ∷ decimal count ∷ []
 
--- words by which the program is asked for nothing
-abbrev pub AskNothing : List (List ℕ) → Type 0
-AskNothing words = (t : Task) → words ≢ words_for t
+-- a task's numbers are numbers of 64 bits
+abbrev pub HasNumbers : Task → Type 0
+HasNumbers the_task.One = ⊤
+HasNumbers the_task.Check = ⊤
+HasNumbers the_task.Show = ⊤
+HasNumbers (the_task.Gen number count) = (number < 2 ^ 64) × (count < 2 ^ 64)
 
--- what a task makes of a session: its result in the order of its file, or the text that shows it
-abbrev pub IsOutputFor : Task → Recorded → List ℕ → Type 0
-IsOutputFor the_task.One s bytes = IsOwnResult s bytes
-IsOutputFor the_task.Show s bytes = bytes ≡ shown s
+-- the words ask for the task
+pub record AskFor (words : List (List ℕ)) (t : Task) : Type 0 where
+  pub same : words ≡ words_for t
+  pub numbers : HasNumbers t
+
+-- a task makes its session, and so reads none
+abbrev pub MakesSession : Task → Type 0
+MakesSession the_task.One = ⊥
+MakesSession the_task.Check = ⊥
+MakesSession the_task.Show = ⊥
+MakesSession (the_task.Gen number count) = ⊤
+
+-- the words ask for a session to be made
+pub record AskToMake (words : List (List ℕ)) : Type 0 where
+  pub task : Task
+  pub asked : AskFor words task
+  pub makes : MakesSession task
+
+-- the task that one word names
+abbrev pub task_of_word : List ℕ → Option Task
+task_of_word word =
+    if bytes_eq word (codes "one") then Some the_task.One
+    else if bytes_eq word (codes "check") then Some the_task.Check
+    else if bytes_eq word (codes "show") then Some the_task.Show
+    else None
+
+-- the task of two numbers
+abbrev pub gen_of : Option ℕ → Option ℕ → Option Task
+gen_of (Some number) (Some count) = Some (the_task.Gen number count)
+gen_of _ _ = None
+
+-- the task that a word names with two numbers after it
+abbrev pub task_of_numbers : List ℕ → List ℕ → List ℕ → Option Task
+task_of_numbers word number count = if bytes_eq word (codes "gen") then gen_of (number_in number) (number_in count) else None
+
+-- the task that words name, if they name one
+abbrev pub task_named : List (List ℕ) → Option Task
+task_named (word ∷ []) = task_of_word word
+task_named (word ∷ number ∷ count ∷ []) = task_of_numbers word number count
+task_named _ = None

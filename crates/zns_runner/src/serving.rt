@@ -13,8 +13,8 @@ use std::alloc::Global;
 use zns_io::{Bytes, NoMemory};
 use zone_model::{Act, Replies, Reply};
 
-// Serves one act.
-fn serve_act(alloc: Global, drive: &mut Solo, act: Act) -> Result<Reply, NoMemory>
+/// Serves one act.
+pub fn serve_act(alloc: Global, drive: &mut Solo, act: Act) -> Result<Reply, NoMemory>
     requires spare { 0 < drive.old.spare }
     requires act { IsAct drive.old.geometry act }
     ensures acts { OnOk result (drive.new.acts ≡ drive.old.acts ++ act ∷ []) }
@@ -54,8 +54,8 @@ fn serve_acts(alloc: Global, drive: &mut Solo, acts: Vec<Act>) -> Result<Replies
     Ok(replies)
 }
 
-// The descriptors of all zones of a drive.
-fn descriptors_of(alloc: Global, drive: &Solo) -> Result<Vec<u8>, NoMemory>
+/// The descriptors of all zones of a drive.
+pub fn descriptors_of(alloc: Global, drive: &Solo) -> Result<Vec<u8>, NoMemory>
     ensures { IfOk result
         (λ v. v.items ≡ bytes_of_all (descriptors drive.now.geometry (history drive.now))) }
 {
@@ -65,8 +65,8 @@ fn descriptors_of(alloc: Global, drive: &Solo) -> Result<Vec<u8>, NoMemory>
     Ok(out)
 }
 
-// The page of a drive's changed zones.
-fn page_of(alloc: Global, drive: &Solo) -> Result<Vec<u8>, NoMemory>
+/// The page of a drive's changed zones.
+pub fn page_of(alloc: Global, drive: &Solo) -> Result<Vec<u8>, NoMemory>
     ensures { IfOk result
         (λ v. v.items ≡ changed_page drive.now.geometry (changed_zones drive.now)) }
 {

@@ -2,6 +2,7 @@ ghost use Rattle.std.specs.Prelude.{◌≡◌, IfOk};
 ghost use Rattle.zns_runner.specs.Numbers.{number_of};
 ghost use Rattle.zns_runner.specs.Lines.{line_of};
 
+use crate::comparing::CompareErr;
 use session_file::{FileErr, Reason, Which};
 use std::alloc::Global;
 use std::fmt;
@@ -28,8 +29,12 @@ pub enum Status {
     /// The input is not what the words ask for, at an offset from its first byte.
     BadFile { reason: Reason, offset: u64 },
 
-    /// A number of the input, or its length, is over its limit.
+    /// A number of the input, its length, or the number of commands to make is over its limit.
     TooLarge { which: Which, number: u64 },
+
+    /// A result isn't that of its session. The two differ first, or one of them ends, at an offset
+    /// from the input's first byte.
+    Differs { offset: u64 },
 }
 
 impl From<NoMemory> for Status {
@@ -58,6 +63,20 @@ impl From<FileErr> for Status {
     }
 }
 
+impl From<CompareErr> for Status {
+    ghost use Rattle.std.specs.Prelude.{◌≡◌};
+    ghost use Rattle.zns_runner.specs.Making.{status_of_difference};
+
+    ghost from_gives = { λ e s. s ≡ status_of_difference e };
+
+    fn from(error: CompareErr) -> Status {
+        match error {
+            CompareErr::NoMemory => Status::NoMemory,
+            CompareErr::Differs { offset } => Status::Differs { offset },
+        }
+    }
+}
+
 impl Status {
     /// The number with which the program ends.
     pub fn number(&self) -> u8
@@ -71,6 +90,7 @@ impl Status {
             Status::WriteFault => 4,
             Status::BadFile { .. } => 5,
             Status::TooLarge { .. } => 6,
+            Status::Differs { .. } => 7,
         }
     }
 
@@ -93,7 +113,7 @@ impl fmt::Display for Status {
         match self {
             Status::Ok => Ok(()),
             Status::NoMemory => writeln!(f, "zns_runner: no memory"),
-            Status::Usage => writeln!(f, "zns_runner: usage: one, show"),
+            Status::Usage => writeln!(f, "zns_runner: usage: one, check, show, gen NUMBER COUNT"),
             Status::ReadFault => writeln!(f, "zns_runner: read fault"),
             Status::WriteFault => writeln!(f, "zns_runner: write fault"),
             Status::BadFile { reason, offset } => {
@@ -102,6 +122,7 @@ impl fmt::Display for Status {
             Status::TooLarge { which, number } => {
                 writeln!(f, "zns_runner: too large: {which} {number}")
             }
+            Status::Differs { offset } => writeln!(f, "zns_runner: differs at {offset}"),
         }
     }
 }

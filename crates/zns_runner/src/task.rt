@@ -1,5 +1,7 @@
-ghost use Rattle.std.specs.Prelude.{◌≡◌, IfSome, IfNone};
-ghost use Rattle.zns_runner.specs.Tasks.{words_for, AskNothing};
+ghost use Rattle.std.specs.Prelude.{◌≡◌, Some, IfSome};
+ghost use Rattle.zns_runner.specs.declared.task.Task.{Task};
+ghost use Rattle.zns_runner.specs.Decimals.{number_in};
+ghost use Rattle.zns_runner.specs.Tasks.{AskFor, gen_of, task_named};
 
 use crate::word::Word;
 
@@ -9,18 +11,36 @@ pub enum Task {
     /// To serve a session in the order of its file.
     One,
 
+    /// To hold a result of a session against the definitions, in the order that it names.
+    Check,
+
     /// To show a session as text.
     Show,
+
+    /// To serve the session of so many commands that a number makes, and sum it up.
+    Gen { number: u64, count: u64 },
 }
 
-/// What the words ask for.
+// The task to make a session, by its two words where they are numbers.
+fn gen_of(number: &Word, count: &Word) -> Option<Task>
+    ensures { result ≡ gen_of (number_in number.now) (number_in count.now) }
+{
+    let number = number.number()?;
+    let count = count.number()?;
+    Some(Task::Gen { number, count })
+}
+
+/// The task that the words name.
 pub fn task_of(words: &[Word]) -> Option<Task>
-    ensures some { IfSome result (λ task. words.now ≡ words_for task) }
-    ensures none { IfNone result (AskNothing words.now) }
+    ensures named { result ≡ task_named words.now }
+    ensures some { IfSome result (AskFor words.now) }
+    ensures complete { (t : Task) → AskFor words.now t → result ≡ Some t }
 {
     match words {
         [word] if word.is("one") => Some(Task::One),
+        [word] if word.is("check") => Some(Task::Check),
         [word] if word.is("show") => Some(Task::Show),
+        [word, number, count] if word.is("gen") => gen_of(number, count),
         _ => None,
     }
 }

@@ -1,5 +1,8 @@
 mod arguments;
+mod checking;
 mod crowds;
+mod edge;
+mod generating;
 mod kinds;
 mod managing;
 mod refusals;
@@ -159,11 +162,20 @@ fn each_status_has_its_number_and_line(rt: HostRuntime) -> Result<(), Fail> {
     for (status, number, line) in [
         (Status::Ok, 0, ""),
         (Status::NoMemory, 1, "zns_runner: no memory\n"),
-        (Status::Usage, 2, "zns_runner: usage: one, show\n"),
+        (
+            Status::Usage,
+            2,
+            "zns_runner: usage: one, check, show, gen NUMBER COUNT\n",
+        ),
         (Status::ReadFault, 3, "zns_runner: read fault\n"),
         (Status::WriteFault, 4, "zns_runner: write fault\n"),
         (bad_file, 5, "zns_runner: bad file: Trailing at 648\n"),
         (too_large, 6, "zns_runner: too large: ZoneSize 65\n"),
+        (
+            Status::Differs { offset: 5_035 },
+            7,
+            "zns_runner: differs at 5035\n",
+        ),
     ] {
         assert_eq!(rt; status.number(), number);
         assert_eq!(rt; status.line(rt.alloc())?.as_slice(), line.as_bytes());

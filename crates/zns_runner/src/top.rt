@@ -1,19 +1,25 @@
-ghost use Rattle.std.specs.Prelude.{◌≡◌, ◌↔◌, ◌≤◌, ◌^◌, length, IfOk};
-ghost use Rattle.zns_runner.specs.Tasks.{AskNothing, IsOutputFor};
-ghost use Rattle.zns_runner.specs.Outcomes.{moment, Means, IsComplete};
-ghost use Rattle.zns_runner.specs.Making.{MakesOutput, GivesOutput};
+ghost use Rattle.std.specs.Prelude.{◌≡◌, ◌↔◌, ◌≤◌, ◌^◌, true, [], None, length, is_ok};
+ghost use Rattle.zns_runner.specs.Tasks.{MakesSession, AskToMake, task_named};
+ghost use Rattle.zns_runner.specs.Outcomes.{moment, Means, IsComplete, GoesByCount};
+ghost use Rattle.zns_runner.specs.Making.{Makes, MakesByCount, GivesInput, GivesOutput};
 
+use crate::checking::check;
+use crate::generating::generate;
 use crate::serving::serve;
 use crate::showing::show;
 use crate::status::Status;
+use crate::summing::summarize;
 use crate::task::{Task, task_of};
 use crate::word::Word;
-use session_file::{FileErr, Session, Which, read};
+use session_file::{Which, read};
 use std::alloc::Global;
-use zns_io::{Bytes, NoMemory, ReadErr, Sink, Source, read_all, write_all};
+use zns_io::{Bytes, ReadErr, Sink, Source, read_all, write_all};
 
 // No input is longer.
 const GREATEST_INPUT: u64 = 1 << 29;
+
+// No session that is made has more commands.
+const MOST_COMMANDS: u64 = 262_144;
 
 // The input is longer than the longest.
 const TOO_LONG: Status = Status::TooLarge {
@@ -21,51 +27,91 @@ const TOO_LONG: Status = Status::TooLarge {
     number: GREATEST_INPUT + 1,
 };
 
-// What a task makes of a session.
-fn make(alloc: Global, task: Task, session: Session) -> Result<Bytes, NoMemory>
-    ensures { IfOk result (IsOutputFor task session) }
+// The result of the session that an input is.
+fn one(alloc: Global, input: &[u8]) -> Result<Bytes, Status>
+    requires { length input.now ≤ 2 ^ 29 }
+    ensures { Makes Task.One input.now result }
+{
+    let session = read(alloc, input)?;
+    Ok(serve(alloc, session)?)
+}
+
+// The text that shows the session that an input is.
+fn text(alloc: Global, input: &[u8]) -> Result<Bytes, Status>
+    requires { length input.now ≤ 2 ^ 29 }
+    ensures { Makes Task.Show input.now result }
+{
+    let session = read(alloc, input)?;
+    Ok(show(alloc, &session)?)
+}
+
+// The summary of the session of so many commands that a number makes.
+fn made_summary(alloc: Global, number: u64, count: u64) -> Result<Bytes, Status>
+    ensures makes { Makes (Task.Gen number count) [] result }
+    ensures by_count { MakesByCount (Task.Gen number count) result }
+{
+    if count > MOST_COMMANDS {
+        return Err(Status::TooLarge {
+            which: Which::Commands,
+            number: count,
+        });
+    }
+    let session = generate(alloc, number, count as u32)?;
+    Ok(summarize(alloc, session)?)
+}
+
+// What a task makes of its input.
+fn output_for(alloc: Global, task: Task, input: &[u8]) -> Result<Bytes, Status>
+    requires { length input.now ≤ 2 ^ 29 }
+    ensures makes { Makes task input.now result }
+    ensures by_count { MakesByCount task result }
 {
     match task {
-        Task::One => serve(alloc, session),
-        Task::Show => show(alloc, &session),
+        Task::One => one(alloc, input),
+        Task::Check => check(alloc, input),
+        Task::Show => text(alloc, input),
+        Task::Gen { number, count } => made_summary(alloc, number, count),
     }
 }
 
-// What a task makes of an input.
-fn output_for(alloc: Global, task: Task, input: &[u8]) -> Result<Bytes, FileErr>
-    requires { length input.now ≤ 2 ^ 29 }
-    ensures { MakesOutput task input.now result }
+// The input of a task: all that a source gives, or no bytes where the task reads nothing.
+fn input_for<S: Source>(alloc: Global, task: Task, source: &mut S) -> Result<Bytes, ReadErr>
+    ensures input { GivesInput task (S.left source.old) (S.left source.new)
+        (S.faults source.old) (S.faults source.new) result }
+    ensures gen_reads_nothing { MakesSession task → source.new ≡ source.old }
+    ensures gen_goes_on { MakesSession task → is_ok result ≡ true }
 {
-    let session = read(alloc, input)?;
-    Ok(make(alloc, task, session)?)
+    match task {
+        Task::One | Task::Check | Task::Show => read_all(alloc, source, GREATEST_INPUT),
+        Task::Gen { .. } => Ok(Bytes::empty(alloc)),
+    }
 }
 
-// What a task makes of all that a source gives.
+// What a task makes of what a source gives.
 fn output_of<S: Source>(alloc: Global, task: Task, source: &mut S) -> Result<Bytes, Status>
-    ensures { GivesOutput task (S.left source.old) (S.left source.new)
+    ensures output { GivesOutput task (S.left source.old) (S.left source.new)
         (S.faults source.old) (S.faults source.new) result }
+    ensures by_count { MakesByCount task result }
+    ensures gen_reads_nothing { MakesSession task → source.new ≡ source.old }
 {
-    let input = match read_all(alloc, source, GREATEST_INPUT) {
+    let input = match input_for(alloc, task, source) {
         Ok(input) => input,
         Err(ReadErr::NoMemory) => return Err(Status::NoMemory),
         Err(ReadErr::Failed) => return Err(Status::ReadFault),
         Err(ReadErr::Over) => return Err(TOO_LONG),
     };
-    match output_for(alloc, task, input.as_slice()) {
-        Ok(output) => Ok(output),
-        Err(error) => Err(Status::from(error)),
-    }
+    output_for(alloc, task, input.as_slice())
 }
 
-/// Does what the words ask for with the session that the source gives, and writes what it makes to
-/// the sink. The whole output is made before its first byte is written.
+/// Does what the words ask for with what the source gives, and writes what it makes to the sink. The
+/// whole output is made before its first byte is written.
 pub fn top_plain<S: Source, K: Sink>(
     alloc: Global,
     words: &[Word],
     source: &mut S,
     sink: &mut K,
 ) -> Status
-    ensures usage { (result ≡ Status.Usage) ↔ AskNothing words.now }
+    ensures usage { (result ≡ Status.Usage) ↔ (task_named words.now ≡ None) }
     ensures means { Means words.now
         (moment (S.left source.old) (K.taken sink.old) (S.faults source.old) (K.faults sink.old))
         (moment (S.left source.new) (K.taken sink.new) (S.faults source.new) (K.faults sink.new))
@@ -74,6 +120,8 @@ pub fn top_plain<S: Source, K: Sink>(
         (moment (S.left source.old) (K.taken sink.old) (S.faults source.old) (K.faults sink.old))
         (moment (S.left source.new) (K.taken sink.new) (S.faults source.new) (K.faults sink.new))
         result }
+    ensures by_count { GoesByCount words.now result }
+    ensures gen_reads_nothing { AskToMake words.now → source.new ≡ source.old }
 {
     let task = match task_of(words) {
         Some(task) => task,

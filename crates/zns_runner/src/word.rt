@@ -1,5 +1,8 @@
-ghost use Rattle.std.specs.Prelude.{◌≡◌, ◌↔◌, IfOk, IsTrue};
+ghost use Rattle.std.specs.Prelude.{◌≡◌, ℕ, ◌<◌, ◌^◌, ◌↔◌, IfOk, IsTrue, Some};
+ghost use Rattle.std.specs.Fmt.{decimal};
+ghost use Rattle.zns_runner.specs.Decimals.{number_in};
 
+use crate::decimals::number_in;
 use std::alloc::Global;
 use std::marker::Model;
 use zns_io::{Bytes, NoMemory};
@@ -32,5 +35,14 @@ impl Word {
         ensures { IsTrue result ↔ (self.now ≡ text.now) }
     {
         self.text.as_slice() == text.as_bytes()
+    }
+
+    /// The number of 64 bits that it spells in decimal digits, without leading zeros.
+    pub fn number(&self) -> Option<u64>
+        ensures same { result ≡ number_in self.now }
+        ensures exactly { (n : ℕ)
+            → (result ≡ Some n) ↔ ((self.now ≡ decimal n) × (n < 2 ^ 64)) }
+    {
+        number_in(self.text.as_slice())
     }
 }

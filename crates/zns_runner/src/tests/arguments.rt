@@ -8,8 +8,8 @@ use zns_io::{Bytes, SureSink, SureSource, read_all};
 
 // An environment with these arguments, the program's name first, and no variables.
 #[derive(Clone, Copy)]
-struct Arguments<'a> {
-    all: &'a [&'a [u8]],
+pub struct Arguments<'a> {
+    pub all: &'a [&'a [u8]],
 }
 
 impl Env for Arguments<'_> {

@@ -1,6 +1,7 @@
 use super::rows::Answer::{Blocks, Bytes, Entries, Gives, Refused, Success, Waits};
 use super::rows::{
-    EMPTY, INVALID_OPCODE, NONE, OFFLINE, ROW, Row, TOO_MANY_ACTIVE, Zone, compare_all,
+    EMPTY, INVALID_NAMESPACE, INVALID_OPCODE, NONE, OFFLINE, ROW, Row, TOO_MANY_ACTIVE, Zone,
+    compare_all,
 };
 use super::sessions::Ask::{
     All, Append, Close, Event, Excursion, Finish, Flush, FlushTo, GetFeatures, GetLog, Identify,
@@ -67,6 +68,8 @@ const KINDS: [Row<'static>; 1] = [Row {
         (21, Reset(0), Success),
         (22, Other(0x55), Refused(INVALID_OPCODE)),
         (23, OtherAdmin(0x55), Refused(INVALID_OPCODE)),
+        (24, Flush(u32::MAX), Success),
+        (25, Flush(2), Refused(INVALID_NAMESPACE)),
     ],
     zones: &[
         Zone(0, EMPTY, 0, 0),

@@ -1,10 +1,11 @@
 use super::rows::Answer::{Bytes, Entries, Gives, Refused, Success, Waits};
 use super::rows::{
-    EMPTY, INVALID_FIELD, INVALID_LOG_PAGE, INVALID_OPCODE, NONE, READ_ONLY, READ_ONLY_ZONE, ROW,
-    Row, Zone, compare_all,
+    EMPTY, INVALID_FIELD, INVALID_LOG_PAGE, INVALID_OPCODE, NONE, OFFLINE, READ_ONLY,
+    READ_ONLY_ZONE, ROW, Row, Zone, compare_all,
 };
 use super::sessions::Ask::{
-    Close, Event, Excursion, GetFeatures, GetLog, Identify, OtherAdmin, Receive, SetFeatures, Write,
+    Close, Event, Excursion, GetFeatures, GetLog, GetLogRetained, Identify, OtherAdmin, Receive,
+    SetFeatures, Write,
 };
 use std::test::Fail;
 
@@ -124,7 +125,7 @@ const EVENT_9: &[u8] =
 
 const EVENT_6: &[u8] = b"\x02\xef\xbf\0\x01\0\0\0\x03\0\0\0\x06\0\x01\0";
 
-const EVENTS: [Row<'static>; 4] = [
+const EVENTS: [Row<'static>; 5] = [
     Row {
         shows: "an excursion answers the event request that waits",
         exchanges: &[
@@ -147,6 +148,25 @@ const EVENTS: [Row<'static>; 4] = [
         ],
         zones: &[Zone(2, READ_ONLY, 0, NONE)],
         page: &[1, 0, 0, 0, 0, 0, 0, 0, 128],
+        ..ROW
+    },
+    Row {
+        shows: "a page that is retained is read again, and its event is not told again",
+        exchanges: &[
+            (1, SetFeatures(0x0800_0000), Success),
+            (2, Excursion(64, 5), Success),
+            (6, Event, Entries(EVENT_6)),
+            (4, GetLogRetained(16), Bytes(16, &[(0, &[1]), (8, &[64])])),
+            (5, Excursion(128, 5), Success),
+            (7, Event, Waits),
+            (
+                8,
+                GetLogRetained(24),
+                Bytes(24, &[(0, &[2]), (8, &[64]), (16, &[128])]),
+            ),
+        ],
+        zones: &[Zone(1, OFFLINE, 0, NONE), Zone(2, OFFLINE, 0, NONE)],
+        page: &[2, 0, 0, 0, 0, 0, 0, 0, 64, 0, 0, 0, 0, 0, 0, 0, 128],
         ..ROW
     },
     Row {

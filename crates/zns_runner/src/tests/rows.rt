@@ -28,6 +28,8 @@ pub const INVALID_OPCODE: u16 = 0x4001;
 
 pub const INVALID_FIELD: u16 = 0x4002;
 
+pub const INVALID_NAMESPACE: u16 = 0x400b;
+
 pub const OUT_OF_RANGE: u16 = 0x4080;
 
 pub const INVALID_LOG_PAGE: u16 = 0x4109;

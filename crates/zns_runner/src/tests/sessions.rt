@@ -73,7 +73,9 @@ pub enum Ask {
     // a report: where it begins, its bytes, the filter, and whether it counts what it gives alone
     Receive(u64, u32, u8, bool),
     Identify(u8, u8),
+    // the bytes; the second keeps the log
     GetLog(u32),
+    GetLogRetained(u32),
     SetFeatures(u32),
     GetFeatures,
     Event,
@@ -179,6 +181,7 @@ fn record_of(ask: Ask) -> Record {
         Ask::Receive(lba, bytes, filter, is_partial) => receive(lba, bytes, filter, is_partial),
         Ask::Identify(cns, csi) => command(0, 0x06, u64::from(cns) | (u64::from(csi) << 56)),
         Ask::GetLog(bytes) => command(0, 0x02, 0xbf | (u64::from(dwords(bytes)) << 16)),
+        Ask::GetLogRetained(bytes) => command(0, 0x02, 0x80bf | (u64::from(dwords(bytes)) << 16)),
         Ask::SetFeatures(value) => command(0, 0x09, 0x0b | (u64::from(value) << 32)),
         Ask::GetFeatures => command(0, 0x0a, 0x0b),
         Ask::Event => command(0, 0x0c, 0),

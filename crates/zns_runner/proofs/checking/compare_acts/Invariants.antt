@@ -1,0 +1,12 @@
+use Rattle.std.proofs.Common.{◌≡◌, ◌+◌, [], length}
+use Rattle.zone_model.specs.Sessions.{replies_bytes}
+use Rattle.zns_runner.specs.Differences.{StandAt}
+use Rattle.zns_runner.proofs.checking.compare_acts.Given as goal
+
+abbrev pub invariant-loop-act : goal.invariant-loop-act
+invariant-loop-act l = record {
+  acts : l.drive.acts ≡ l.yielded;
+  room : l.drive.spare + length l.yielded ≡ length l.fn.acts.items;
+  geometry : l.drive.geometry ≡ l.fn.drive.geometry;
+  stand : StandAt l.input l.fn.at (replies_bytes l.fn.drive.geometry [] l.yielded) l.at;
+}

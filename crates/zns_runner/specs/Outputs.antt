@@ -1,0 +1,49 @@
+-- What the program writes, by what it is asked for.
+use Rattle.std.specs.Prelude.{◌≡◌, ℕ, ◌≤◌, List, [], ◌∷◌, codes}
+use Rattle.zone_model.specs.Laws.{IsKept}
+use Rattle.zone_model.specs.Sessions.{Recorded, IsSession, spells, merge, own_order}
+use Rattle.zns_runner.specs.declared.task.Task.{Task}
+use Rattle.zns_runner.specs.declared.task.Task.TheVariants as the_task
+use Rattle.zns_runner.specs.Sessions.{IsOwnResult}
+use Rattle.zns_runner.specs.Showing.{shown}
+use Rattle.zns_runner.specs.Generating.{made}
+use Rattle.zns_runner.specs.Summaries.{summary}
+use Rattle.zns_runner.specs.Checking.{IsSame}
+use Rattle.zns_runner.specs.Texts.{line}
+
+-- The input is a session, and the output is its result in the order of its file. In that order its acts keep the limits,
+-- move pointers as they may, and leave committed blocks.
+pub record IsServed (input output : List ℕ) : Type 0 where
+  pub session : Recorded
+  pub valid : IsSession session
+  pub spelled : spells session input
+  pub result : IsOwnResult session output
+  pub kept : IsKept session.geometry (merge session (own_order session.acts))
+
+-- the input is a session, and the output is the text that shows it
+pub record IsShown (input output : List ℕ) : Type 0 where
+  pub session : Recorded
+  pub valid : IsSession session
+  pub spelled : spells session input
+  pub text : output ≡ shown session
+
+-- what is said where a result is that of its session
+abbrev pub same_line : List ℕ
+same_line = line (codes "same" ∷ [])
+
+-- the input is a session and its result, and the output says so
+pub record IsConfirmed (input output : List ℕ) : Type 0 where
+  pub same : IsSame input
+  pub text : output ≡ same_line
+
+-- there are few enough commands, and the output is the summary of the session that the number makes
+pub record IsGenerated (number count : ℕ) (output : List ℕ) : Type 0 where
+  pub few : count ≤ 262144
+  pub text : output ≡ summary (made number count)
+
+-- what a task makes of an input
+abbrev pub IsOutputFor : Task → List ℕ → List ℕ → Type 0
+IsOutputFor the_task.One input output = IsServed input output
+IsOutputFor the_task.Check input output = IsConfirmed input output
+IsOutputFor the_task.Show input output = IsShown input output
+IsOutputFor (the_task.Gen number count) input output = IsGenerated number count output

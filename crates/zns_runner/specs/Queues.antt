@@ -1,0 +1,9 @@
+-- Acts by their queues.
+use Rattle.std.specs.Prelude.{◌≡◌, ℕ, ◌<◌, List, length, slice_index_or}
+use Rattle.zone_model.specs.declared.act.Act.{Act}
+use Rattle.zone_model.specs.Sessions.{acts_of}
+
+-- so many queues, and each has its acts of these in their order
+pub record AreQueues (count : ℕ) (acts : List Act) (queues : List (List Act)) : Type 0 where
+  pub long : length queues ≡ count
+  pub each : (queue : ℕ) → queue < count → (d : List Act) → slice_index_or queues queue d ≡ acts_of queue acts
