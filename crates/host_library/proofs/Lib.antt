@@ -1,0 +1,12 @@
+pub mod Shown
+pub mod DeedShadows
+pub mod Asked
+pub mod ActShadows
+pub mod ReportShadows
+pub mod ShadowLists
+pub mod ToldAnswers
+pub mod Standing
+pub mod Rings
+pub mod Looping
+pub mod Received
+pub mod Pumps

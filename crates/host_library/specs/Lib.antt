@@ -1,0 +1,6 @@
+pub mod Links
+pub mod Loops
+pub mod Shadows
+pub mod Asking
+pub mod Hosts
+pub mod Pumping

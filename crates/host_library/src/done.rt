@@ -1,0 +1,15 @@
+/// What a command gave that a drive has done.
+#[derive(Clone, Copy, Debug, PartialEq, Eq)]
+pub struct Done {
+    /// The number that the command's call answered.
+    pub cid: u16,
+
+    /// The first dword of the result. After an append, the low half of the number of its first block.
+    pub dw0: u32,
+
+    /// The second dword of the result. After an append, the high half.
+    pub dw1: u32,
+
+    /// How many bytes the command read, in front of `out`.
+    pub len: u32,
+}

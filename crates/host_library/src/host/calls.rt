@@ -1,0 +1,187 @@
+//! The calls that put a command into the ring.
+ghost use Rattle.std.specs.Prelude.{◌≡◌, ◌<◌, []};
+ghost use Rattle.host_library.specs.Asking.{IsData, IsCommand, blocks_in, write_at, append_to, put_at, open_with_window, commit_to, reset_of, report_of};
+ghost use Rattle.host_library.specs.Hosts.{put_gives, after_put};
+
+use crate::asking::{COMMIT, OPEN, QUEUE, REPORT_LEN, RESET};
+use crate::host::Host;
+use crate::host_err::HostErr;
+use crate::link::Link;
+use sqe_codec::{Cmd, write};
+use zns_io::Bytes;
+use zns_types::Geometry;
+use zone_model::Act;
+
+// The one namespace.
+const NAMESPACE: u32 = 1;
+
+// The blocks of host data.
+fn blocks_in(g: &Geometry, payload: &Bytes) -> u32
+    requires { IsData g.now.fields payload.now }
+    ensures { result ≡ blocks_in g.now.fields payload.now }
+{
+    (payload.as_slice().len() / g.block_len() as usize) as u32
+}
+
+impl<L: Link> Host<L> {
+    // Puts a command at the ring's back.
+    fn put(&mut self, command: &Cmd, payload: Bytes) -> Result<u16, HostErr>
+        requires { IsCommand self.old.geometry command.now payload }
+        ensures result { result ≡ put_gives self.old payload }
+        ensures host { self.new ≡ after_put self.old command.now payload }
+    {
+        let cid = self.next;
+        let act = Act {
+            queue: QUEUE,
+            sqe: write(command, cid),
+            payload,
+        };
+        match self.ring.try_push_back(act) {
+            Ok(()) => {
+                self.next = cid.wrapping_add(1);
+                Ok(cid)
+            }
+            Err(Act { payload, .. }) => Err(HostErr::RingFull(payload)),
+        }
+    }
+
+    /// Puts a write at the ring's back, of 1 to 65,536 whole blocks from the block `lba` on, and
+    /// answers the number that the command gets: they count up from 0 and wrap. Where the ring is
+    /// full, the host data comes back.
+    pub fn write(&mut self, lba: u64, payload: Bytes) -> Result<u16, HostErr>
+        requires { IsData self.old.geometry payload }
+        ensures result { result ≡ put_gives self.old payload }
+        ensures host { self.new ≡ after_put self.old (write_at self.old.geometry lba payload)
+            payload }
+    {
+        let blocks = blocks_in(&self.geometry, &payload);
+        self.put(
+            &Cmd::Write {
+                nsid: NAMESPACE,
+                slba: lba,
+                blocks,
+            },
+            payload,
+        )
+    }
+
+    /// Puts an append to a zone at the ring's back, of 1 to 65,536 whole blocks. Its first block's
+    /// number comes with `Done`. The answers are those of `write`.
+    pub fn append(&mut self, zone: u32, payload: Bytes) -> Result<u16, HostErr>
+        requires zone { zone < self.old.geometry.zones }
+        requires payload { IsData self.old.geometry payload }
+        ensures result { result ≡ put_gives self.old payload }
+        ensures host { self.new ≡ after_put self.old (append_to self.old.geometry zone payload)
+            payload }
+    {
+        let blocks = blocks_in(&self.geometry, &payload);
+        let zslba = self.geometry.first(zone);
+        self.put(
+            &Cmd::Append {
+                nsid: NAMESPACE,
+                zslba,
+                blocks,
+            },
+            payload,
+        )
+    }
+
+    /// Puts a write into a zone's random write area at the ring's back, of 1 to 65,536 whole blocks
+    /// from an offset in the zone on. The answers are those of `write`.
+    pub fn window_put(&mut self, zone: u32, offset: u64, payload: Bytes) -> Result<u16, HostErr>
+        requires zone { zone < self.old.geometry.zones }
+        requires offset { offset < self.old.geometry.zone_size }
+        requires payload { IsData self.old.geometry payload }
+        ensures result { result ≡ put_gives self.old payload }
+        ensures host { self.new ≡ after_put self.old (put_at self.old.geometry zone offset payload)
+            payload }
+    {
+        let lba = self.geometry.first(zone) + offset;
+        self.write(lba, payload)
+    }
+
+    /// Puts an open of a zone with a random write area at the ring's back. The answers are those of
+    /// `write`; no host data comes back.
+    pub fn open_window(&mut self, zone: u32) -> Result<u16, HostErr>
+        requires { zone < self.old.geometry.zones }
+        ensures result { result ≡ put_gives self.old [] }
+        ensures host { self.new ≡ after_put self.old (open_with_window self.old.geometry zone) [] }
+    {
+        let slba = self.geometry.first(zone);
+        let payload = Bytes::empty(self.alloc);
+        self.put(
+            &Cmd::Send {
+                nsid: NAMESPACE,
+                slba,
+                action: OPEN,
+                all: false,
+                option: true,
+            },
+            payload,
+        )
+    }
+
+    /// Puts a commit of a zone's random write area at the ring's back, up to the block at the offset
+    /// `last`. The answers are those of `open_window`.
+    pub fn flush_to(&mut self, zone: u32, last: u64) -> Result<u16, HostErr>
+        requires zone { zone < self.old.geometry.zones }
+        requires offset { last < self.old.geometry.zone_size }
+        ensures result { result ≡ put_gives self.old [] }
+        ensures host { self.new ≡ after_put self.old (commit_to self.old.geometry zone last) [] }
+    {
+        let slba = self.geometry.first(zone) + last;
+        let payload = Bytes::empty(self.alloc);
+        self.put(
+            &Cmd::Send {
+                nsid: NAMESPACE,
+                slba,
+                action: COMMIT,
+                all: false,
+                option: false,
+            },
+            payload,
+        )
+    }
+
+    /// Puts a reset of a zone at the ring's back. The answers are those of `open_window`.
+    pub fn reset(&mut self, zone: u32) -> Result<u16, HostErr>
+        requires { zone < self.old.geometry.zones }
+        ensures result { result ≡ put_gives self.old [] }
+        ensures host { self.new ≡ after_put self.old (reset_of self.old.geometry zone) [] }
+    {
+        let slba = self.geometry.first(zone);
+        let payload = Bytes::empty(self.alloc);
+        self.put(
+            &Cmd::Send {
+                nsid: NAMESPACE,
+                slba,
+                action: RESET,
+                all: false,
+                option: false,
+            },
+            payload,
+        )
+    }
+
+    /// Puts a report of one zone at the ring's back, of 128 bytes. The answers are those of
+    /// `open_window`.
+    pub fn report(&mut self, zone: u32) -> Result<u16, HostErr>
+        requires { zone < self.old.geometry.zones }
+        ensures result { result ≡ put_gives self.old [] }
+        ensures host { self.new ≡ after_put self.old (report_of self.old.geometry zone) [] }
+    {
+        let slba = self.geometry.first(zone);
+        let payload = Bytes::empty(self.alloc);
+        self.put(
+            &Cmd::Receive {
+                nsid: NAMESPACE,
+                slba,
+                bytes: REPORT_LEN,
+                action: 0,
+                filter: 0,
+                partial: true,
+            },
+            payload,
+        )
+    }
+}

@@ -1,0 +1,36 @@
+use std::fmt;
+use thiserror::Error;
+use zns_io::Bytes;
+use zns_types::Code;
+
+/// Why a host's call gave nothing.
+#[derive(Drop, Error)]
+pub enum HostErr {
+    /// The link failed. The command is still the oldest in the ring.
+    #[error("the link failed")]
+    LinkFault,
+
+    /// The drive refused the command.
+    #[error("the drive refused the command: {0:?}")]
+    Refused(Code),
+
+    /// As many commands wait as a queue has entries. The host data comes back.
+    #[error("the ring is full")]
+    RingFull(Bytes),
+
+    /// The completion entry sets bits that no entry uses: its last byte, which has them.
+    #[error("the completion entry is torn: its last byte is {0:#04x}")]
+    Torn(u8),
+}
+
+// Host data shows as its length.
+impl fmt::Debug for HostErr {
+    fn fmt<W: fmt::Write>(&self, f: &mut fmt::Formatter<W>) -> fmt::Result {
+        match self {
+            HostErr::LinkFault => f.write_str("LinkFault"),
+            HostErr::Refused(code) => write!(f, "Refused({code:?})"),
+            HostErr::RingFull(data) => write!(f, "RingFull({} bytes)", data.as_slice().len()),
+            HostErr::Torn(byte) => write!(f, "Torn({byte})"),
+        }
+    }
+}
