@@ -1,5 +1,5 @@
 -- The log of changed zones: marks of zones, and the rising list of those that are marked. (Zoned Namespace Command Set
--- Specification 1.1, 4.1.5, Changed Zone List.)
+-- Specification 1.1, 4.1.4, Changed Zone List.)
 use Rattle.std.specs.Prelude.{ℕ, Bool, false, ◌==◌, nat_lt, if◌then◌else◌, List, [], ◌∷◌, filter, length, slice_index_or}
 use Rattle.std.specs.List.{flat_map, range_with_len}
 use Rattle.byteorder.specs.Endian.{little_bytes}

@@ -1,5 +1,5 @@
 -- The marks of asynchronous events, and the requests that wait. (NVM Express Base Specification 2.0, 5.2, Asynchronous
--- Event Request; Zoned Namespace Command Set Specification 1.1, 4.1.4, Zone Descriptor Changed Notices.)
+-- Event Request; Zoned Namespace Command Set Specification 1.1, 4.1.3, Zone Descriptor Changed Notices.)
 use Rattle.std.specs.Prelude.{◌≡◌, ℕ, ◌≤◌, Bool, true, false, not, ◌&&◌, nat_le, if◌then◌else◌, List, [], ◌∷◌, ◌++◌, length, Option, Some, None}
 use Rattle.changed_log.specs.declared.waited.Waited.{Waited}
 use Rattle.changed_log.specs.declared.waited.Waited.TheVariants as waited

@@ -7,7 +7,7 @@ use std::marker::Model;
 
 /// The marks that govern events of changed zones, and the Asynchronous Event Requests that wait, at
 /// most four (NVM Express Base Specification 2.0, 5.2; Zoned Namespace Command Set Specification
-/// 1.1, 4.1.4).
+/// 1.1, 4.1.3).
 #[derive(Drop)]
 pub struct Events {
     enabled: bool,
@@ -39,8 +39,8 @@ impl Events {
         }
     }
 
-    /// Enables events, or no longer: bit 27 of the feature Asynchronous Event Configuration. An event
-    /// that is pending stays so.
+    /// Enables events, or no longer: bit 27 of the feature Asynchronous Event Configuration. An
+    /// event that is pending stays so.
     pub fn enable(&mut self, on: bool)
         ensures marks { self.new ≡ with_enabled on self.old }
         ensures sound { IsSound self.new }
@@ -78,9 +78,9 @@ impl Events {
         }
     }
 
-    /// Notices an excursion that succeeded. Where events are enabled and not masked, it completes the
-    /// oldest request that waits, by its command identifier, and masks further events; where none
-    /// waits, an event is pending.
+    /// Notices an excursion that succeeded. Where events are enabled and not masked, it completes
+    /// the oldest request that waits, by its command identifier, and masks further events; where
+    /// none waits, an event is pending.
     pub fn fire(&mut self) -> Option<u16>
         ensures answer { result ≡ fired_by self.old }
         ensures oldest { IfSome result (λ cid. self.old.waiting ≡ cid ∷ self.new.waiting) }

@@ -43,7 +43,8 @@ pub fn list_firsts(marks: &[bool], g: &Geometry, out: &mut [u8])
     requires few { length marks.now ≤ 4096 }
     requires zones { All (λ z. z < g.now.fields.zones) (marked_zones marks.now) }
     requires room { 8 + 8 * length (marked_zones marks.now) ≤ length out.old }
-    ensures { out.new ≡ take 8 out.old ++ (first_blocks g.now.fields (marked_zones marks.now) ++ drop (8 + 8 * length (marked_zones marks.now)) out.old) }
+    ensures { out.new ≡ take 8 out.old ++ (first_blocks g.now.fields (marked_zones marks.now)
+        ++ drop (8 + 8 * length (marked_zones marks.now)) out.old) }
 {
     let mut at = 8;
     for zone in 0..marks.len() {

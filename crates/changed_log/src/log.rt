@@ -9,7 +9,7 @@ use std::marker::Model;
 use zns_types::Geometry;
 
 /// The zones that an excursion changed since the log was last read and cleared (Zoned Namespace
-/// Command Set Specification 1.1, 4.1.5). Contracts see the rising list of their numbers, which are
+/// Command Set Specification 1.1, 4.1.4). Contracts see the rising list of their numbers, which are
 /// below 4,096.
 #[derive(Drop)]
 pub struct ChangedLog {
@@ -45,8 +45,9 @@ impl ChangedLog {
     }
 
     /// Writes the log page Changed Zone List, of 4,096 bytes: in bytes 0 and 1 the number of zones,
-    /// and from byte 8 on the first block of each, rising, 8 bytes each. With more than 511 zones the
-    /// number is FFFFh, and no block is given. The zones that were noted are zones of the drive.
+    /// and from byte 8 on the first block of each, rising, 8 bytes each. With more than 511 zones
+    /// the number is FFFFh, and no block is given. The zones that were noted are zones of the
+    /// drive.
     pub fn page(&self, g: &Geometry, out: &mut [u8])
         requires len { length out.old ≡ 4096 }
         requires zones { All (λ z. z < g.now.fields.zones) self.now }

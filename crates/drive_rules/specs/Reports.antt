@@ -48,7 +48,7 @@ abbrev pub is_overflow : List ℕ → Bool
 is_overflow changed = nat_lt 511 (length changed)
 
 -- The 4,096 bytes of the Changed Zone List: the number of changed zones and their first blocks, or only that there are
--- too many. (Zoned Namespace Command Set Specification 1.1, 4.1.5.)
+-- too many. (Zoned Namespace Command Set Specification 1.1, 4.1.4.)
 abbrev pub changed_page : GeometryFields → List ℕ → List ℕ
 changed_page g changed =
     if is_overflow changed then little_bytes 2 0xffff ++ replicate 4094 0

@@ -186,7 +186,7 @@ pub record Table : Type 0 where
 abbrev pub judging_rows : Table → List (Row Status)
 judging_rows t = t.front ++ t.own
 
--- All rows of a table, where so much is in use; an open resource isn't wanting where another zone can be closed for it.
+-- All rows of a table, where so much is in use; too many open zones don't refuse where another can be closed.
 abbrev pub table_rows : GeometryFields → Limits → Bool → Table → List (Row Status)
 table_rows g n evictable t = judging_rows t ++ need_rows g n t.need evictable
 

@@ -11,7 +11,7 @@ use Rattle.zone_model.specs.Reach.{reach}
 use Rattle.drive_book.specs.declared.book.Book.{Book}
 use Rattle.drive_book.specs.Books.{BookStands}
 
--- the cell of a zone behind a history
+-- the cell of a zone after a history
 abbrev pub cell_at : GeometryFields → List Place → ℕ → Cell
 cell_at g h z = cell_of g z (deeds h z)
 

@@ -13,7 +13,7 @@ use zone_cell::ZoneCell;
 use zone_model::Act;
 
 /// Serves a command on lent cells, which are those of its reach, rising, or all, and on the book of
-/// their drive. What it reads stands in front of `out`; the rest of `out` stays.
+/// their drive. What it reads stands at the start of `out`; the rest of `out` stays.
 pub fn apply(
     cells: &mut [ZoneCell],
     book: &mut Book,

@@ -10,7 +10,7 @@ use zns_types::Geometry;
 const PAGE: u32 = 4096;
 
 /// Serves an Identify that no row of its front refuses: there is a page of this structure (CNS) and
-/// command set (CSI). It stands in front of `out`; the rest of `out` stays.
+/// command set (CSI). It stands at the start of `out`; the rest of `out` stays.
 pub fn serve_identify(g: &Geometry, cns: u8, csi: u8, out: &mut [u8]) -> Outcome
     requires page { is_some (page_of cns csi g.now.fields) ≡ true }
     requires room { 4096 ≤ length out.old }

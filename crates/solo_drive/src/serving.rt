@@ -63,7 +63,8 @@ fn serve_aim(
     requires within { aim.zone < g.now.fields.zones }
     requires lengths { HasLengths g.now.fields act.now (length out.old) }
     requires parts { PartsStand g.now.fields act.now cells.old book.old }
-    ensures { Serves g.now.fields act.now cells.old cells.new book.old book.new out.old out.new result }
+    ensures { Serves g.now.fields act.now cells.old cells.new book.old book.new
+        out.old out.new result }
 {
     let place = (aim.zone - cells[0].zone()) as usize;
     let all = cells.len() == g.fields().zones as usize;
@@ -93,7 +94,8 @@ fn serve_plain(
     requires sweep { sweep_of command ≡ None }
     requires lengths { HasLengths g.now.fields act.now (length out.old) }
     requires parts { PartsStand g.now.fields act.now cells.now book.old }
-    ensures { IsDone g.now.fields act.now result cells.now cells.now book.old book.new out.old out.new }
+    ensures { IsDone g.now.fields act.now result cells.now cells.now book.old book.new
+        out.old out.new }
 {
     match command {
         Cmd::Read { slba, blocks, .. } => {
@@ -127,7 +129,8 @@ pub fn serve(
 ) -> Option<Outcome>
     requires lengths { HasLengths g.now.fields act.now (length out.old) }
     requires parts { PartsStand g.now.fields act.now cells.old book.old }
-    ensures { Serves g.now.fields act.now cells.old cells.new book.old book.new out.old out.new result }
+    ensures { Serves g.now.fields act.now cells.old cells.new book.old book.new
+        out.old out.new result }
 {
     let command = read(&act.sqe, act.queue == 0);
     if let Some(code) = check_front(g, command) {

@@ -22,7 +22,8 @@ use zone_descriptor::write;
 use zone_limits::Limits;
 use zone_model::Journal;
 
-/// A drive that serves one command at a time.
+/// A drive that serves one command at a time, with all of its zones in memory. It remembers the
+/// acts that it served, its journal, and what it answers follows from them.
 #[derive(Drop)]
 pub struct Solo {
     geometry: Geometry,
@@ -75,7 +76,7 @@ fn fresh_cells(alloc: Global, g: &Geometry) -> Result<Vec<ZoneCell>, NoMemory>
 }
 
 impl Solo {
-    /// The drive of a geometry to which nothing was done, with room for so many acts.
+    /// A drive to which nothing was done: every zone is Empty. It has room for `room` acts.
     pub fn new(alloc: Global, g: Geometry, room: u32) -> Result<Solo, NoMemory>
         requires room { room ≤ 262144 }
         ensures { IfOk result (λ s. s ≡ record { geometry = g.fields; acts = []; spare = room }) }
@@ -89,8 +90,10 @@ impl Solo {
         })
     }
 
-    /// Serves one act: the journal gains it, and it is answered as the definitions say of it after
-    /// the acts before. What it reads stands in front of `out`; the rest of `out` stays.
+    /// Serves one act: a submission entry on a queue, with its host data. The journal gains it, and
+    /// it is answered as the definitions say of it after the acts before, with no, one or two
+    /// completion entries. The bytes that it reads are put at the start of `out`; the rest of `out`
+    /// stays.
     pub fn submit(&mut self, queue: u16, sqe: Sqe, payload: Bytes, out: &mut [u8]) -> Posted
         requires spare { 0 < self.old.spare }
         requires queue { queue < self.old.geometry.queues }
@@ -119,14 +122,14 @@ impl Solo {
         }
     }
 
-    /// For how many more acts there is room.
+    /// How many more acts there is room for.
     pub fn spare(&self) -> u32
         ensures { result ≡ self.now.spare }
     {
         self.book.journal.spare()
     }
 
-    /// The acts that were served.
+    /// The acts that were served, the oldest first.
     pub fn journal(&self) -> &Journal
         ensures acts { result.now.acts ≡ self.now.acts }
         ensures spare { result.now.spare ≡ self.now.spare }
@@ -148,7 +151,7 @@ impl Solo {
         &self.book.limits
     }
 
-    /// A zone's write pointer, in blocks from its start.
+    /// A zone's write pointer, in blocks from the zone's start.
     pub fn pointer(&self, zone: u32) -> u64
         requires { zone < self.now.geometry.zones }
         ensures { result ≡ pointer self.now.geometry (history self.now) zone }
@@ -156,7 +159,8 @@ impl Solo {
         self.cells[zone as usize].pointer()
     }
 
-    /// The descriptors of all zones, rising, 64 bytes each.
+    /// Fills `out` with the descriptors of all zones, rising, of 64 bytes each (Zoned Namespace
+    /// Command Set Specification 1.1, 3.4.2.2.1).
     pub fn descriptors(&self, out: &mut [u8])
         requires { length out.old ≡ 64 * self.now.geometry.zones }
         ensures { out.new ≡ bytes_of_all (descriptors self.now.geometry (history self.now)) }
@@ -164,7 +168,8 @@ impl Solo {
         write_descriptors(&self.cells, &self.geometry, out);
     }
 
-    /// The log page of changed zones, which is kept.
+    /// Fills `out` with the 4,096 bytes of the Changed Zone List, and leaves the log as it is
+    /// (Zoned Namespace Command Set Specification 1.1, 4.1.4).
     pub fn page(&self, out: &mut [u8])
         requires { length out.old ≡ 4096 }
         ensures { out.new ≡ changed_page self.now.geometry (changed_zones self.now) }

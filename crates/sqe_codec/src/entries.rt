@@ -71,8 +71,10 @@ pub fn receive(
     partial: bool,
 ) -> Sqe
     requires { IsDwordLength bytes }
-    ensures bytes { result.bytes ≡ spelled.entry_of (Cmd.Receive nsid slba bytes action filter partial) cid }
-    ensures command { command false result.bytes ≡ Cmd.Receive nsid slba bytes action filter partial }
+    ensures bytes { result.bytes
+        ≡ spelled.entry_of (Cmd.Receive nsid slba bytes action filter partial) cid }
+    ensures command { command false result.bytes
+        ≡ Cmd.Receive nsid slba bytes action filter partial }
     ensures cid { cid_of result.bytes ≡ cid }
 {
     let how = receive_dword(action, filter, partial);

@@ -9,7 +9,8 @@ use zns_types::Geometry;
 
 /// The bytes of host data that an entry brings: those of the blocks of a Write or an Append.
 pub fn transfer_len(g: &Geometry, admin: bool, sqe: &Sqe) -> u32
-    ensures exact { result ≡ spelled.transfer_len g.now.fields (spelled.command admin sqe.now.bytes) }
+    ensures exact { result
+        ≡ spelled.transfer_len g.now.fields (spelled.command admin sqe.now.bytes) }
     ensures small { result ≤ 2 ^ 28 }
 {
     match read(sqe, admin) {

@@ -34,7 +34,7 @@ pub data GaveInTurn {S : Type 0} (step : S → List ℕ → Result ℕ Failed �
   one_read : {now next : S} {bytes room out : List ℕ} {count : ℕ} →
       GaveInTurn step first bytes now → 0 < count → step now room (Ok count) out next → GaveInTurn step first (bytes ++ take count out) next
 
--- The first read that gives nothing ends it, and so does the first that fails. Otherwise more bytes came than the limit, or memory is wanting.
+-- The first read that gives nothing ends it, and so does the first that fails. Otherwise more bytes came than the limit, or memory ran out.
 abbrev pub ReadsInTurn : {S : Type 0} → (S → List ℕ → Result ℕ Failed → List ℕ → S → Type 0) → S → ℕ → Result Bytes ReadErr → S → Type 0
 ReadsInTurn {S} step first limit (Ok bytes) last =
     (now : S) × (room : List ℕ) × (out : List ℕ) × GaveInTurn step first bytes now × step now room (Ok 0) out last

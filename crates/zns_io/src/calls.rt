@@ -4,9 +4,10 @@ ghost use Rattle.zns_io.specs.Calls.{is_due, calls_after};
 use crate::failed::Failed;
 use std::marker::Model;
 
-/// Calls that are numbered from 0, of which those in a list fail.
+/// A plan of calls that are numbered from 0, of which those in a list fail. It counts the calls, and
+/// those of them that failed.
 #[derive(Drop)]
-pub(crate) struct CallPlan {
+pub struct CallPlan {
     failing: Vec<u32>,
     // Both counts stand still at `u64::MAX`, which is the number of no call in the list.
     made: u64,
@@ -22,7 +23,8 @@ impl Model for CallPlan {
 }
 
 impl CallPlan {
-    pub(crate) fn new(failing: Vec<u32>) -> CallPlan
+    /// The plan before its first call. The calls whose numbers are in `failing` fail.
+    pub fn new(failing: Vec<u32>) -> CallPlan
         ensures { result ≡ record { failing = failing.items; made = 0; faults = 0 } }
     {
         CallPlan {
@@ -32,8 +34,8 @@ impl CallPlan {
         }
     }
 
-    /// Counts a call, which fails where it is due to or is refused.
-    pub(crate) fn count(&mut self, is_refused: bool) -> Result<(), Failed>
+    /// Counts a call, which fails where its number is in the list, or where it is refused.
+    pub fn count(&mut self, is_refused: bool) -> Result<(), Failed>
         ensures fails { is_err result ≡ (is_due self.old || is_refused) }
         ensures counted { self.new ≡ calls_after self.old (is_due self.old || is_refused) }
         ensures never_falls { self.old.faults ≤ self.new.faults }

@@ -18,6 +18,7 @@ mod sure_source;
 mod writing;
 
 pub use bytes::Bytes;
+pub use calls::CallPlan;
 pub use failed::Failed;
 pub use mem_sink::MemSink;
 pub use mem_source::MemSource;

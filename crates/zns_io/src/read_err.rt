@@ -8,7 +8,7 @@ use thiserror::Error;
 /// Why a source wasn't read to its end.
 #[derive(Clone, Copy, Debug, PartialEq, Eq, Error)]
 pub enum ReadErr {
-    #[error("memory is wanting")]
+    #[error("out of memory")]
     NoMemory,
     #[error("a read failed")]
     Failed,

@@ -24,7 +24,8 @@ pub trait Sink {
         ensures step { step self.old piece.now result self.new }
         ensures some { IfOk result (λ n. 1 ≤ n) }
         ensures bound { IfOk result (λ n. n ≤ length piece.now) }
-        ensures bytes { IfOk result (λ n. Gains (taken self.old) (taken self.new) (take n piece.now)) }
+        ensures bytes { IfOk result
+            (λ n. Gains (taken self.old) (taken self.new) (take n piece.now)) }
 
         ensures kept { OnErr result (taken self.new ≡ taken self.old) }
         ensures fault { OnErr result (Rose (faults self.old) (faults self.new)) }

@@ -19,12 +19,13 @@ pub trait Source {
     /// What a read into some room may answer, put there, and leave of the source.
     ghost step: { Self → List ℕ → Result ℕ Failed → List ℕ → Self → Type 0 };
 
-    /// Puts some bytes in front of `out`, which has room, and says how many. 0 is the end.
+    /// Puts some bytes at the start of `out`, which has room, and says how many. 0 is the end.
     fn read(&mut self, out: &mut [u8]) -> Result<usize, Failed>
         requires { 0 < length out.old }
         ensures step { step self.old out.old result out.new self.new }
         ensures bound { ReadsAtMost result out.new }
-        ensures bytes { IfOk result (λ n. Consumes (left self.old) (left self.new) (take n out.new)) }
+        ensures bytes { IfOk result
+            (λ n. Consumes (left self.old) (left self.new) (take n out.new)) }
         ensures end { IfOk result (λ n. n ≡ 0 → IsAtEnd (left self.new)) }
 
         ensures kept { OnErr result (left self.new ≡ left self.old) }

@@ -32,7 +32,8 @@ impl SureSink {
     /// A sink with room for so many bytes, of which a write takes at most `piece`.
     pub fn new(alloc: Global, room: u32, piece: u32) -> Result<SureSink, NoMemory>
         requires { 1 ≤ piece }
-        ensures { IfOk result (λ sink. sink ≡ record { kept = []; whole = true; room = room; piece = piece }) }
+        ensures { IfOk result (λ sink.
+            sink ≡ record { kept = []; whole = true; room = room; piece = piece }) }
     {
         let kept = Vec::with_capacity(alloc, room as usize)?;
         Ok(SureSink {

@@ -170,7 +170,7 @@ fn errors_say_what_is_wrong(rt: HostRuntime) -> Result<(), Fail> {
     let failed = format!(in alloc; "{}", Failed)?;
     assert_eq!(rt; failed.as_str(), "a read or a write failed");
     for (error, want) in [
-        (ReadErr::NoMemory, "memory is wanting"),
+        (ReadErr::NoMemory, "out of memory"),
         (ReadErr::Failed, "a read failed"),
         (ReadErr::Over, "more bytes came than were allowed"),
     ] {

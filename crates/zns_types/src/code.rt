@@ -4,6 +4,10 @@ ghost use Rattle.zns_types.specs.Statuses.{Status, all_statuses, do_not_retry, s
 use std::marker::Model;
 
 /// The status of a command: the status code type, below 8, and the status code.
+///
+/// Type 0 has the generic codes (Base Specification 2.0, 3.3.3.2.1), type 1 those that are specific
+/// to a command; B6h to BFh of it are of zones (Zoned Namespace Command Set Specification 1.1,
+/// 3.4).
 #[derive(Clone, Copy, Debug, PartialEq, Eq)]
 pub struct Code {
     pub sct: u8,
@@ -32,38 +36,57 @@ impl Default for Code {
 }
 
 impl Code {
+    /// The command did what it asks for.
     pub const SUCCESS: Code = Code { sct: 0, sc: 0x00 };
 
+    /// Invalid Command Opcode: no command of this kind of queue has the opcode.
     pub const INVALID_OPCODE: Code = Code { sct: 0, sc: 0x01 };
 
+    /// Invalid Field in Command: a field has a value that the command does not take.
     pub const INVALID_FIELD: Code = Code { sct: 0, sc: 0x02 };
 
+    /// Invalid Namespace or Format: the namespace is not number 1.
     pub const INVALID_NAMESPACE: Code = Code { sct: 0, sc: 0x0b };
 
+    /// LBA Out of Range: the blocks end past the namespace.
     pub const LBA_OUT_OF_RANGE: Code = Code { sct: 0, sc: 0x80 };
 
+    /// Asynchronous Event Request Limit Exceeded: four requests wait.
     pub const EVENT_LIMIT_EXCEEDED: Code = Code { sct: 1, sc: 0x05 };
 
+    /// Invalid Log Page: there is no such page.
     pub const INVALID_LOG_PAGE: Code = Code { sct: 1, sc: 0x09 };
 
+    /// Invalid Zone Operation Request: an Append to a zone with a random write area, a commit
+    /// without one, or an Open that asks for one where there can be none.
     pub const INVALID_ZONE_OPERATION: Code = Code { sct: 1, sc: 0xb6 };
 
+    /// ZRWA Resources Unavailable: as many zones have a random write area as may.
     pub const ZRWA_RESOURCES_UNAVAILABLE: Code = Code { sct: 1, sc: 0xb7 };
 
+    /// Zone Boundary Error: the blocks end past the capacity, or a Read would cross zones.
     pub const ZONE_BOUNDARY_ERROR: Code = Code { sct: 1, sc: 0xb8 };
 
+    /// Zone Is Full.
     pub const ZONE_FULL: Code = Code { sct: 1, sc: 0xb9 };
 
+    /// Zone Is Read Only.
     pub const ZONE_READ_ONLY: Code = Code { sct: 1, sc: 0xba };
 
+    /// Zone Is Offline.
     pub const ZONE_OFFLINE: Code = Code { sct: 1, sc: 0xbb };
 
+    /// Zone Invalid Write: not at the write pointer, or outside of the random write area.
     pub const ZONE_INVALID_WRITE: Code = Code { sct: 1, sc: 0xbc };
 
+    /// Too Many Active Zones: as many zones are active as may.
     pub const TOO_MANY_ACTIVE_ZONES: Code = Code { sct: 1, sc: 0xbd };
 
+    /// Too Many Open Zones: as many zones are opened as may, and no other can be closed for this
+    /// one.
     pub const TOO_MANY_OPEN_ZONES: Code = Code { sct: 1, sc: 0xbe };
 
+    /// Invalid Zone State Transition: the state does not allow the action.
     pub const INVALID_ZONE_STATE_TRANSITION: Code = Code { sct: 1, sc: 0xbf };
 
     /// All codes, from success on.

@@ -4,7 +4,8 @@ use crate::field::GeomErr;
 use crate::fields::GeometryFields;
 use crate::rules::first_broken;
 
-/// Numbers that make a drive.
+/// The numbers of a drive that keep all rules of a session's header. Blocks are logical blocks,
+/// zones and blocks are counted from 0.
 #[derive(Clone, Copy, Debug)]
 pub struct Geometry {
     pub fields: GeometryFields,
@@ -31,14 +32,14 @@ impl Geometry {
         }
     }
 
-    /// The numbers.
+    /// The numbers, field by field.
     pub fn fields(&self) -> &GeometryFields
         ensures { result.now ≡ self.now.fields }
     {
         &self.fields
     }
 
-    /// The bytes of a block.
+    /// The length of a block, in bytes: 512 or 4,096.
     pub fn block_len(&self) -> u32
         ensures exact { result ≡ block_len self.now.fields }
         ensures some { 512 ≤ result }
@@ -47,7 +48,7 @@ impl Geometry {
         1 << self.fields.block_exp
     }
 
-    /// The blocks of the namespace.
+    /// How many blocks the namespace has.
     pub fn blocks(&self) -> u64
         ensures exact { result ≡ all_blocks self.now.fields }
         ensures small { result < 2 ^ 32 }
@@ -55,7 +56,8 @@ impl Geometry {
         u64::from(self.fields.zones) * self.fields.zone_size
     }
 
-    /// The first block of a zone.
+    /// The first block of a zone, as a block number of the namespace (Zoned Namespace Command Set
+    /// Specification 1.1, 2.1: the zone start logical block address).
     pub fn first(&self, zone: u32) -> u64
         requires { zone < self.now.fields.zones }
         ensures { result ≡ first self.now.fields zone }
@@ -63,7 +65,7 @@ impl Geometry {
         u64::from(zone) * self.fields.zone_size
     }
 
-    /// The zone that holds a block.
+    /// The number of the zone that has a block of the namespace.
     pub fn zone_of(&self, lba: u64) -> u32
         requires { lba < all_blocks self.now.fields }
         ensures exact { result ≡ zone_of self.now.fields lba }
@@ -72,7 +74,7 @@ impl Geometry {
         (lba / self.fields.zone_size) as u32
     }
 
-    /// The place of a block in its zone.
+    /// The place of a block in its zone, in blocks from the zone's start.
     pub fn offset_of(&self, lba: u64) -> u64
         ensures exact { result ≡ offset_of self.now.fields lba }
         ensures within { result < self.now.fields.zone_size }
@@ -80,7 +82,8 @@ impl Geometry {
         lba % self.fields.zone_size
     }
 
-    /// The most bytes that one command may move.
+    /// The most bytes that one command may move: 65,536 blocks, and less where `mdts` says so (Base
+    /// Specification 2.0, 5.17.2.1).
     pub fn greatest_transfer(&self) -> u64
         ensures { result ≡ greatest_transfer self.now.fields }
     {

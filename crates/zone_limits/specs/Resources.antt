@@ -27,7 +27,7 @@ no_open_left g counts need evictable = when (need.opened && at_limit g.open_limi
 abbrev pub no_window_left : GeometryFields → Limits → Need → Row Status
 no_window_left g counts need = when (need.window && windows_used_up g counts.windows) zrwa_resources_unavailable
 
--- The wants that refuse, in their order. An open resource isn't wanting where a zone can be closed for it.
+-- The lacks of a resource that refuse, in their order. Too many open zones don't refuse where one can be closed.
 abbrev pub need_rows : GeometryFields → Limits → Need → Bool → List (Row Status)
 need_rows g counts need evictable =
     no_active_left g counts need ∷ no_open_left g counts need evictable ∷ no_window_left g counts need ∷ []

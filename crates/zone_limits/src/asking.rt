@@ -13,10 +13,12 @@ fn at_limit(limit: u32, count: u32) -> bool
 }
 
 /// What a command that needs these resources has to do first, or the status that says which of them
-/// is wanting. `evictable` says whether a zone can be closed in the place of the one to be opened.
+/// is used up. `evictable` says whether a zone can be closed in the place of the one to be opened.
 pub fn need(limits: &Limits, g: &Geometry, need: Need, evictable: bool) -> Result<Grant, Code>
-    ensures refused { IfErr result (λ code. first_holding (need_rows g.now.fields limits.now need evictable) ≡ Some code) }
-    ensures granted { IsOk result ↔ (first_holding (need_rows g.now.fields limits.now need evictable) ≡ None) }
+    ensures refused { IfErr result (λ code.
+        first_holding (need_rows g.now.fields limits.now need evictable) ≡ Some code) }
+    ensures granted { IsOk result
+        ↔ (first_holding (need_rows g.now.fields limits.now need evictable) ≡ None) }
     ensures evict { IfOk result (λ grant. grant.evict ≡ evicts g.now.fields limits.now need) }
 {
     let fields = g.fields();
@@ -33,8 +35,8 @@ pub fn need(limits: &Limits, g: &Geometry, need: Need, evictable: bool) -> Resul
     Ok(Grant { evict })
 }
 
-/// Whether a zone has to give way for what a command needs: no active resource is wanting, and an
-/// open one is.
+/// Whether another zone has to give way for what a command needs: active resources are left for it,
+/// and open ones are not.
 pub fn wants_room(limits: &Limits, g: &Geometry, need: Need) -> bool
     ensures { result
         ≡ (not (no_active_left g.now.fields limits.now need).holds

@@ -1,5 +1,5 @@
 -- The changed zones and the events that tell of them: NVM Express Base Specification 2.0, 5.2 (Asynchronous Event
--- Request), and Zoned Namespace Command Set Specification 1.1, 4.1.4.
+-- Request), and Zoned Namespace Command Set Specification 1.1, 4.1.3 and 4.1.4.
 use Rattle.std.specs.Prelude.{ℕ, Bool, false, not, ◌&&◌, ◌||◌, if◌then◌else◌, List, [], ◌∷◌, ◌++◌, drop, filter, Option, Some, None, is_some}
 use Rattle.std.specs.List.{list_any}
 use Rattle.zns_types.specs.declared.fields.GeometryFields.{GeometryFields}

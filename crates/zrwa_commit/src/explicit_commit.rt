@@ -8,7 +8,8 @@ use zns_types::{Code, Geometry};
 pub fn explicit(p: u64, last: u64, g: &Geometry) -> Result<u64, Code>
     requires windows { 1 ≤ g.now.fields.windows }
     requires pointer { p < 2 ^ 32 }
-    ensures refused { IfErr result (λ code. first_holding (commit_rows g.now.fields p last) ≡ Some code) }
+    ensures refused { IfErr result (λ code.
+        first_holding (commit_rows g.now.fields p last) ≡ Some code) }
     ensures admitted { IsOk result ↔ (first_holding (commit_rows g.now.fields p last) ≡ None) }
     ensures pointer { IfOk result (λ new. new ≡ last + 1) }
 {

@@ -20,8 +20,10 @@ pub fn implicit(p: u64, end: u64, g: &Geometry) -> u64
     requires pointer { p < 2 ^ 32 }
     requires admitted { end ≤ p + 2 * g.now.fields.window }
     ensures fewest { FewestGranules g.now.fields p end result }
-    ensures least { p % g.now.fields.granule ≡ 0 → result ≡ least_multiple g.now.fields.granule (max p (end - g.now.fields.window)) }
-    ensures in_capacity { p < g.now.fields.capacity → end ≤ g.now.fields.capacity → result < g.now.fields.capacity }
+    ensures least { p % g.now.fields.granule ≡ 0 → result
+        ≡ least_multiple g.now.fields.granule (max p (end - g.now.fields.window)) }
+    ensures in_capacity { p < g.now.fields.capacity → end ≤ g.now.fields.capacity
+        → result < g.now.fields.capacity }
 {
     let fields = g.fields();
     let granule = u64::from(fields.granule);

@@ -15,7 +15,8 @@ fn mask(low: usize, high: usize) -> u64
 pub fn set_bits(words: &mut [u64], from: usize, to: usize)
     requires order { from ≤ to }
     requires within { to ≤ 64 * length words.old }
-    ensures { (block : ℕ) → is_set words.new block ≡ (lies_within from to block || is_set words.old block) }
+    ensures { (block : ℕ) → is_set words.new block
+        ≡ (lies_within from to block || is_set words.old block) }
 {
     let mut at = from;
     while at < to {
