@@ -2,6 +2,8 @@ pub mod Responses
 pub mod Dealt
 pub mod Opened
 pub mod Served
+pub mod Taken
+pub mod Stopped
 pub mod Gathered
 pub mod SameQueues
 pub mod Rested

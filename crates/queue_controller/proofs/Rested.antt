@@ -1,23 +1,22 @@
 -- Jobs that are done, and the end of a session.
-use Rattle.std.proofs.Common.{◌≡◌, ℕ, zero, suc, ◌<◌, ◌≤◌, true, false, None, List, [], ◌∷◌, ◌++◌, length, map, get_or, take, refl, ap, sym, ◌∙◌, subst, subst₂, arith, leb, ⊎_elim}
+use Rattle.std.proofs.Common.{◌≡◌, ℕ, zero, suc, ◌<◌, ◌≤◌, true, false, List, [], ◌∷◌, ◌++◌, length, map, get_or, take, refl, ap, sym, ◌∙◌, subst, subst₂, arith, leb, ⊎_elim}
 use Rattle.std.specs.Prelude.{◌≢◌, All}
 use Rattle.std.proofs.lemmas.Bool.Decides.{leb_tells}
 use Rattle.std.specs.Global.{Vec, Global}
 use Rattle.std.specs.declared.collections.VecDeque.{VecDeque}
 use mathlib.Core.Option.{some, some-injective, some-ne-none}
-use mathlib.Core.List.{IsPrefix}
 use lib.ListN.{get_elem?}
 use Rattle.atomic_table.proofs.Lists.{at_map, at_longer, at_last}
 use Rattle.zns_types.specs.declared.fields.GeometryFields.{GeometryFields}
 use Rattle.zone_model.specs.declared.act.Act.{Act}
 use Rattle.zone_model.specs.declared.reply.Reply.{Reply}
 use Rattle.zone_model.specs.Sessions.{IsAct, acts_of}
-use Rattle.zone_desk.specs.Passes.{DeskId, Pass, AllIdle, Exactly, HaveKnown, NoOthers}
+use Rattle.zone_desk.specs.Passes.{DeskId, Pass, IsIdle, AllIdle, Exactly, HaveKnown, NoOthers}
 use Rattle.zone_desk.specs.declared.sight.Standing.{Standing}
 use Rattle.zone_desk.specs.declared.sight.Standing.TheVariants.{Live}
 use Rattle.queue_controller.specs.Replies.{queue_responses, Respond}
 use Rattle.queue_controller.specs.Jobs.{Starts, Finishes, acts_in}
-use Rattle.queue_controller.specs.Sessions.{AreDealt, AllHave, AllOpen, Rests, AllRest, AllSaid}
+use Rattle.queue_controller.specs.Sessions.{AreDealt, AllHave, AllOpen, AllRest, AllSaid}
 use Rattle.queue_controller.specs.declared.job.Job.{Job}
 use Rattle.queue_controller.specs.declared.job.Prepared.{Prepared}
 use Rattle.queue_controller.proofs.Opened.{within_by, at_end}
@@ -64,7 +63,7 @@ module _ (desk : DeskId) (acts : List Act) (jobs : List Job) (rest : AllRest des
   all_idle i p e =
       let t = job_of i p e in
       let r = rest i t.0 t.1.0 in
-      subst (λ (q : Pass). (q.desk ≡ desk) × (q.sight.journal ≡ None)) t.1.1 (r.desk_is, r.journal)
+      subst (λ (q : Pass). (q.desk ≡ desk) × IsIdle q.sight) t.1.1 (r.desk_is, r.idle)
 
   queue_is : (i : ℕ) (p : Pass) → get_elem? ps i ≡ some p → p.sight.queue ≡ i
   queue_is i p e = let t = job_of i p e in ap (λ (q : Pass). q.sight.queue) (sym t.1.1) ∙ (rest i t.0 t.1.0).queue_is
@@ -147,7 +146,7 @@ all_rest desk g acts lists old new opened dealt same done q j e =
     record {
       desk_is = f.desk_is;
       queue_is = f.queue ∙ o.queue_is;
-      journal = f.journal;
+      idle = f.idle;
       own = f.own ∙ (ap acts_in o.left ∙ (dealt.each q o.list o.at).acts_are);
       seen = ap (λ (z : ℕ). acts_of z j.pass.sight.seen) (sym o.queue_is) ∙ f.seen;
       replies = subst (λ (z : ℕ). Respond j.replies.items (queue_responses desk.geometry z [] j.pass.sight.seen)) o.queue_is f.replies;

@@ -1,12 +1,12 @@
 -- A worker's job, before and after.
-use Rattle.std.specs.Prelude.{◌≡◌, ℕ, ◌≤◌, List, [], ◌∷◌, length, map, None, vec_capacity}
+use Rattle.std.specs.Prelude.{◌≡◌, ℕ, ◌≤◌, List, [], ◌∷◌, length, map, vec_capacity}
 use Rattle.zns_types.specs.declared.fields.GeometryFields.{GeometryFields}
 use Rattle.solo_drive.specs.Drives.{HasLengths}
 use Rattle.zone_model.specs.declared.act.Act.{Act}
 use Rattle.zone_model.specs.declared.reply.Reply.{Reply}
 use Rattle.zone_model.specs.Sessions.{acts_of}
 use Rattle.session_file.specs.Results.{IsShort}
-use Rattle.zone_desk.specs.Passes.{DeskId}
+use Rattle.zone_desk.specs.Passes.{DeskId, IsIdle}
 use Rattle.queue_controller.specs.Replies.{response_of, response_at, queue_responses, Respond}
 use Rattle.queue_controller.specs.declared.job.Prepared.{Prepared}
 use Rattle.queue_controller.specs.declared.job.Job.{Job}
@@ -31,7 +31,7 @@ pub record IsReplyTo (g : GeometryFields) (a : Act) (r : Reply) (acts : List Act
 -- Nothing is served yet, and there is room for all.
 pub record Starts (desk : DeskId) (j : Job) : Type 0 where
   pub desk_is : j.pass.desk ≡ desk
-  pub journal : j.pass.sight.journal ≡ None
+  pub idle : IsIdle j.pass.sight
   pub own : j.pass.sight.own ≡ []
   pub seen : j.pass.sight.seen ≡ []
   pub replies : j.replies.items ≡ []
@@ -44,7 +44,7 @@ pub record Starts (desk : DeskId) (j : Job) : Type 0 where
 pub record Finishes (desk : DeskId) (j k : Job) : Type 0 where
   pub desk_is : k.pass.desk ≡ desk
   pub queue : k.pass.sight.queue ≡ j.pass.sight.queue
-  pub journal : k.pass.sight.journal ≡ None
+  pub idle : IsIdle k.pass.sight
   pub own : k.pass.sight.own ≡ acts_in j.left.items
   pub seen : acts_of j.pass.sight.queue k.pass.sight.seen ≡ k.pass.sight.own
   pub replies : Respond k.replies.items (queue_responses desk.geometry j.pass.sight.queue [] k.pass.sight.seen)

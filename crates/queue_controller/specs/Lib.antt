@@ -1,4 +1,6 @@
+pub mod Words
 pub mod Serving
+pub mod Trying
 pub mod Replies
 pub mod Jobs
 pub mod Sessions

@@ -1,5 +1,5 @@
 -- A session whose queues are served side by side.
-use Rattle.std.specs.Prelude.{◌≡◌, ℕ, ◌+◌, ◌≤◌, ◌<◌, List, [], ◌∷◌, length, None, vec_capacity}
+use Rattle.std.specs.Prelude.{◌≡◌, ℕ, ◌+◌, ◌≤◌, ◌<◌, List, [], ◌∷◌, length, vec_capacity}
 use Rattle.std.specs.Global.{Vec, Global}
 use Rattle.std.specs.declared.collections.VecDeque.{VecDeque}
 use mathlib.Core.Option.{some}
@@ -7,11 +7,9 @@ use lib.ListN.{get_elem?}
 use Rattle.zns_types.specs.declared.fields.GeometryFields.{GeometryFields}
 use Rattle.zone_model.specs.declared.act.Act.{Act}
 use Rattle.zone_model.specs.declared.reply.Reply.{Reply}
-use Rattle.zone_model.specs.Kept.{KeptReplies}
 use Rattle.zone_model.specs.Laws.{IsKept}
 use Rattle.zone_model.specs.Sessions.{Recorded, IsSession, IsOrder, IsMerge, acts_of, merge, own_order}
-use Rattle.solo_drive.specs.Drives.{Drive}
-use Rattle.zone_desk.specs.Passes.{DeskId, Pass}
+use Rattle.zone_desk.specs.Passes.{DeskId, Pass, IsIdle}
 use Rattle.zone_desk.specs.declared.sight.Standing.{Standing}
 use Rattle.zone_desk.specs.declared.sight.Standing.TheVariants.{Live}
 use Rattle.queue_controller.specs.Replies.{queue_responses, all_responses, Respond}
@@ -94,7 +92,7 @@ pub record Opens (r : Recorded) (s : Shop) : Type 0 where
 pub record Rests (desk : DeskId) (acts : List Act) (queue : ℕ) (j : Job) : Type 0 where
   pub desk_is : j.pass.desk ≡ desk
   pub queue_is : j.pass.sight.queue ≡ queue
-  pub journal : j.pass.sight.journal ≡ None
+  pub idle : IsIdle j.pass.sight
   pub own : j.pass.sight.own ≡ acts_of queue acts
   pub seen : acts_of queue j.pass.sight.seen ≡ j.pass.sight.own
   pub replies : Respond j.replies.items (queue_responses desk.geometry queue [] j.pass.sight.seen)

@@ -1,5 +1,6 @@
 //! One queue's worker.
-ghost use Rattle.std.specs.Prelude.{◌≡◌, ◌<◌, None};
+ghost use Rattle.std.specs.Prelude.{◌≡◌, ◌<◌};
+ghost use Rattle.zone_desk.specs.Passes.{IsIdle};
 ghost use Rattle.queue_controller.specs.Serving.{Serves};
 ghost use Rattle.queue_controller.specs.Jobs.{IsPrepared, IsReplyTo, Starts, Finishes};
 
@@ -35,7 +36,7 @@ fn reply_to<R: Wait, G: Gate>(
     gate: &G,
 ) -> Reply
     requires desk { pass.old.desk ≡ desk.now }
-    requires free { pass.old.sight.journal ≡ None }
+    requires idle { IsIdle pass.old.sight }
     requires spare { 0 < pass.old.sight.spare }
     requires prepared { IsPrepared desk.now.geometry pass.old.sight.queue prepared }
     ensures desk { pass.new.desk ≡ pass.old.desk }

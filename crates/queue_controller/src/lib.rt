@@ -10,8 +10,11 @@ mod serving;
 mod session;
 #[cfg(test)]
 mod tests;
+mod trying;
+mod words;
 
 pub use closing::Outcome;
 pub use gate::{FreeGate, Gate};
 pub use serving::serve;
 pub use session::run_session;
+pub use trying::{Tried, try_serve};

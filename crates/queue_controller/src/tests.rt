@@ -1,10 +1,16 @@
+ghost use Rattle.std.specs.Prelude.{◌≡◌, ◌+◌, ◌<◌, ◌≤◌};
+ghost use Rattle.zone_desk.specs.Passes.{IsIdle};
+
 use super::*;
 use session_file::{Session, read};
+use sqe_codec::{Cmd, reply_len, transfer_len, write};
 use std::alloc::Global;
 use std::sync::atomic::{AtomicU32, Ordering};
 use std::test::Fail;
 use std::thread;
-use zns_types::Code;
+use zns_io::Bytes;
+use zns_types::{Code, Geometry, GeometryFields};
+use zone_desk::{Desk, QueuePass};
 
 // Four zones of 48 blocks of 512 bytes, of which three may be active and two opened, and the
 // queues 0 to 2.
@@ -150,5 +156,117 @@ fn one_write_is_served(rt: HostRuntime) -> Result<(), Fail> {
     };
     let outcome = run_session(&rt, alloc, session(alloc, &[write])?, &FreeGate)?;
     assert_eq!(rt; outcome.drive.pointer(0), 1);
+    Ok(())
+}
+
+// Counts the commands that come to it.
+#[derive(Drop)]
+struct Counting {
+    came: AtomicU32,
+}
+
+impl Gate for Counting {
+    fn before(&self, _queue: u16, _number: u32) {
+        self.came.fetch_add(1, Ordering::SeqCst);
+    }
+}
+
+// Where memory runs out for a session, none of its commands was served. That shows in runs of this
+// test in which each request for memory is refused in turn.
+#[test]
+fn all_commands_are_served_or_none(rt: HostRuntime) -> Result<(), Fail> {
+    let alloc = rt.alloc();
+    let gate = Counting {
+        came: AtomicU32::new(0),
+    };
+    let asked = session(alloc, &[opens(1, 0), opens(1, 64), opens(2, 128)])?;
+    let came = match run_session(&rt, alloc, asked, &gate) {
+        Ok(outcome) => outcome.drive.journal().len(),
+        Err(_) => 0,
+    };
+    assert_eq!(rt; gate.came.load(Ordering::SeqCst), came);
+    Ok(())
+}
+
+// The same drive.
+const SMALL: GeometryFields = GeometryFields {
+    block_exp: 9,
+    mdts: 0,
+    zasl: 0,
+    flags: 0,
+    zones: 4,
+    zone_size: 64,
+    capacity: 48,
+    active_limit: 3,
+    open_limit: 2,
+    windows: 1,
+    granule: 4,
+    window: 8,
+    queues: 3,
+    depth: 64,
+};
+
+// What became of a write of one block: its status, or the word that was held.
+#[derive(Clone, Copy, PartialEq, Eq, Debug)]
+enum Came {
+    Served(Option<Code>),
+    Held(u32),
+}
+
+// Tries to write a block.
+fn try_write(alloc: Global, desk: &Desk, pass: &mut QueuePass, slba: u64) -> Result<Came, Fail>
+    requires desk { pass.old.desk ≡ desk.now }
+    requires idle { IsIdle pass.old.sight }
+    requires spare { 0 < pass.old.sight.spare }
+    ensures desk { pass.new.desk ≡ pass.old.desk }
+    ensures idle { IsIdle pass.new.sight }
+    ensures spare { pass.old.sight.spare ≤ pass.new.sight.spare + 1 }
+{
+    let cmd = Cmd::Write {
+        nsid: 1,
+        slba,
+        blocks: 1,
+    };
+    let sqe = write(&cmd, 7);
+    let (g, admin) = (desk.geometry(), pass.queue() == 0);
+    let payload = Bytes::filled(alloc, transfer_len(g, admin, &sqe), 0x11)?;
+    let mut out = vec![in alloc; 0; reply_len(g, admin, &sqe) as usize]?;
+    match try_serve(desk, pass, sqe, payload, &mut out) {
+        Tried::Served(posted) => {
+            let codes = posted.entries.as_slice().first().map(|entry| entry.code);
+            Ok(Came::Served(codes))
+        }
+        Tried::Busy { word, payload: _ } => Ok(Came::Held(word)),
+    }
+}
+
+#[test]
+fn all_words_only_where_one_gives_way(rt: HostRuntime) -> Result<(), Fail> {
+    let alloc = rt.alloc();
+    let (desk, mut main) = Desk::new(alloc, Geometry::new(SMALL)?, 6)?;
+    let mut first = desk.pass(alloc, &mut main, 1, 5)?;
+    let mut second = desk.pass(alloc, &mut main, 2, 1)?;
+    let mut third = desk.pass(alloc, &mut main, 0, 0)?;
+    assert_eq!(rt;
+        try_write(alloc, &desk, &mut first, 0)?,
+        Came::Served(Some(Code::SUCCESS))
+    );
+    assert_eq!(rt;
+        try_write(alloc, &desk, &mut first, 64)?,
+        Came::Served(Some(Code::SUCCESS))
+    );
+    desk.take_word(&rt, &mut second, 5);
+    assert_eq!(rt; try_write(alloc, &desk, &mut first, 128)?, Came::Held(5));
+    desk.put_back(&mut second);
+    assert_eq!(rt;
+        try_write(alloc, &desk, &mut first, 128)?,
+        Came::Served(Some(Code::SUCCESS))
+    );
+    // Three zones are active now, and no more may be: none has to give way to a fourth.
+    desk.take_word(&rt, &mut third, 2);
+    assert_eq!(rt;
+        try_write(alloc, &desk, &mut first, 192)?,
+        Came::Served(Some(Code::TOO_MANY_ACTIVE_ZONES))
+    );
     Ok(())
 }

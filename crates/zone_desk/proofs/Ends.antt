@@ -5,19 +5,24 @@ use mathlib.Core.Option as maybe
 use lib.ListN.{get_elem?}
 use Rattle.atomic_table.specs.Table.{State, Final, Seen}
 use Rattle.atomic_table.proofs.Lists.{at_set, set_else}
+use Rattle.drive_book.specs.declared.book.Book.{Book}
 use Rattle.zone_model.specs.Kept.{KeptActs}
 use Rattle.zone_model.specs.Sessions.{acts_of}
-use Rattle.zone_desk.specs.Stocks.{Kept, stock_at, journal_at}
-use Rattle.zone_desk.specs.Rules.{Slot, home_of, IsOut, spares, Rule}
+use Rattle.zns_types.specs.declared.fields.GeometryFields.{GeometryFields}
+use Rattle.zone_desk.specs.Parts.{zone_at, ledger_at, journal_at}
+use Rattle.zone_desk.specs.Rules.{home_of, IsOut, HasBook, HasCell, spares, Rule}
 use Rattle.zone_desk.specs.Sights.{joined}
-use Rattle.zone_desk.specs.Passes.{Pass, absorbed, spare_of, Distinct, AllLive, Exactly, NoneJoined, NoneLive, HaveKnown, NoOthers, Ends}
+use Rattle.zone_desk.specs.Passes.{Pass, absorbed, spare_of, Distinct, AllLive, Exactly, NoneJoined, NoneLive, HaveKnown, NoOthers, Ends, AreShelved}
 use Rattle.zone_desk.specs.declared.plan.Plan.{Plan}
+use Rattle.zone_desk.specs.declared.slot.Slot.{Slot}
+use Rattle.zone_desk.specs.declared.slot.Slot.TheVariants.{Ledger, Zone}
 use Rattle.zone_desk.specs.declared.sight.Kind.{Kind}
-use Rattle.zone_desk.specs.declared.sight.Kind.TheVariants.{Main, Queue, Spent}
+use Rattle.zone_desk.specs.declared.sight.Kind.TheVariants.{Main, Queue, Note, Spent}
 use Rattle.zone_desk.specs.declared.sight.Standing.{Standing}
 use Rattle.zone_desk.specs.declared.sight.Standing.TheVariants.{Free, Live, Joined}
 use Rattle.zone_desk.specs.declared.sight.Sight.{Sight}
-use Rattle.zone_desk.proofs.Views.{set_at}
+use Rattle.zone_desk.proofs.Views.{set_at, at_some}
+use Rattle.zone_desk.proofs.Seats.{no_zone}
 
 abbrev St : Type 0
 St = State Slot Sight
@@ -37,42 +42,65 @@ spares_one (x ∷ xs) (suc i) v e h =
     let a = h 0 x (λ n. absurd (omega arith)) refl in
     let b = spares_one xs i v e (λ j u ne e'. h (suc j) u (λ n. ne (omega arith)) e') in omega arith
 
--- nobody holds the word
-nobody : (plan : Plan) (s : St) (r : Rule plan s) → NoneLive r.standings → (h : Option ℕ) → IsOut h s.views → h ≡ None
-nobody plan s r empty None out = refl
-nobody plan s r empty (Some k) out = let f = r.each k out.0 out.1 in absurd (out.2 (f.idle (λ q. empty out.0.queue (f.queue q).0)))
+-- every seat is idle
+idle_at : (plan : Plan) (s : St) (r : Rule plan s) → NoneLive r.standings → (id : ℕ) (v : Sight) → get_elem? s.views id ≡ some v → (v.journal ≡ None) × (v.cells ≡ [])
+idle_at plan s r empty id v at = let f = r.each id v at in f.idle (λ q. empty v.queue (f.queue q).0)
+
+-- nobody holds a word
+no_book : (plan : Plan) (s : St) (r : Rule plan s) → NoneLive r.standings → (h : Option ℕ) → IsOut HasBook h s.views → h ≡ None
+no_book plan s r empty None out = refl
+no_book plan s r empty (Some k) out = absurd (out.2 (idle_at plan s r empty k out.0 out.1).0)
+
+no_cell : (plan : Plan) (s : St) (r : Rule plan s) → NoneLive r.standings → (z : ℕ) (h : Option ℕ) → IsOut (HasCell z) h s.views → h ≡ None
+no_cell plan s r empty z None out = refl
+no_cell plan s r empty z (Some k) out = no_zone out.0 (idle_at plan s r empty k out.0 out.1).1 out.2
 
 -- no seat but the main one has room
 no_room : (plan : Plan) (s : St) (r : Rule plan s) (id : ℕ) → id ≡ 0 → NoneLive r.standings → (j : ℕ) (u : Sight) → j ≢ id → get_elem? s.views j ≡ some u → (k : Kind) → u.kind ≡ k → u.spare ≡ 0
 no_room plan s r id first empty j u ne e Main k = absurd (ne (((r.each j u e).main k).0 ∙ sym first))
 no_room plan s r id first empty j u ne e Queue k = absurd (empty u.queue ((r.each j u e).queue k).0)
+no_room plan s r id first empty j u ne e Note k = (r.each j u e).note k
 no_room plan s r id first empty j u ne e Spent k = (r.each j u e).spent k
 
-pub ends : (plan : Plan) (id : ℕ) (v : Sight) (ws : List ℕ) (xs : List Slot) → v.kind ≡ Main → NoneLive v.standings → Final (Seen (Rule plan) id v) ws xs
-    → (j : KeptActs) × (get_elem? xs 0 ≡ some (Some (stock_at plan.fields j))) × Ends v j
-ends plan id v ws xs is empty fin =
+-- all parts are at home, and are those of one journal
+pub record Closes (g : GeometryFields) (v : Sight) (xs : List Slot) : Type 0 where
+  pub journal : KeptActs
+  pub book : get_elem? xs 0 ≡ some (Ledger (ledger_at g journal))
+  pub cells : AreShelved g journal.acts xs g.zones
+  pub ends : Ends v journal
+
+pub ends : (plan : Plan) (id : ℕ) (v : Sight) (ws : List ℕ) (xs : List Slot) → v.kind ≡ Main → NoneLive v.standings → Final (Seen (Rule plan) id v) ws xs → length xs ≡ suc plan.fields.zones → Closes plan.fields v xs
+ends plan id v ws xs is empty fin long =
     let s = fin.0 in
     let r = fin.1.0 in
     let at = fin.1.1 in
     let f = r.each id v at in
     let main = f.main is in
+    let g : GeometryFields = plan.fields in
     let empty' : NoneLive r.standings = subst NoneLive main.1 empty in
     let j : KeptActs = journal_at plan.room r.log in
-    let k : Kept = stock_at plan.fields j in
-    let homes : s.homes ≡ some (Some k) ∷ [] = r.homes ∙ ap (λ (h : Option ℕ). home_of h k ∷ []) (nobody plan s r empty' r.holder r.out) in
+    let b : Book = ledger_at g j in
+    let home : get_elem? s.homes 0 ≡ some (some (Ledger b)) = r.book ∙ ap (λ (h : Option ℕ). some (home_of h (Ledger b))) (no_book plan s r empty' r.holder r.out_book) in
     let alone = spares_one s.views id v at (λ i u ne e. no_room plan s r id main.0 empty' i u ne e u.kind refl) in
     let whole = r.sum in
-    let little = r.small in (
-      j,
-      fin.4 0 (Some k) (ap (λ (hs : List (maybe.Option Slot)). get_elem? hs 0) homes),
-      record {
+    let little = r.small in
+    let wide = r.wide in
+    let same : length s.homes ≡ length xs = fin.3 in
+    let count : length r.holders ≡ g.zones = omega arith in
+    record {
+      journal = j;
+      book = fin.4 0 (Ledger b) home;
+      cells = λ z lt. let there = at_some r.holders z (omega arith) in
+          fin.4 (suc z) (Zone (zone_at g r.log z))
+          (r.cells z there.0 there.1 ∙ ap (λ (h : Option ℕ). some (home_of h (Zone (zone_at g r.log z)))) (no_cell plan s r empty' z there.0 (r.out_cells z there.0 there.1)));
+      ends = record {
         spare = omega arith;
         small = omega arith;
         seen = f.seen;
         stands = λ q x e. r.stands q x (ap (λ (z : List Standing). get_elem? z q) (sym main.1) ∙ e);
         beyond = λ q far. r.beyond q (subst (λ (z : List Standing). length z ≤ q) main.1 far);
-      },
-    )
+      };
+    }
 
 -- ---- joining all passes
 

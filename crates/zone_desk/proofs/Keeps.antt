@@ -1,258 +1,337 @@
--- Each step of a pass keeps the rule.
-use Rattle.std.proofs.Common.{◌≡◌, ◌≢◌, ℕ, ◌+◌, ◌-◌, ◌%◌, ◌^◌, ◌<◌, eqb, Bool, true, false, List, [], ◌∷◌, ◌++◌, length, get_or, set, Option, Some, None, refl, ap, sym, ◌∙◌, subst, arith, suc-ne-zero, length-append, cond}
-use mathlib.Core.Option.{none, some}
+-- A pass that takes a word keeps the rule.
+use Rattle.std.proofs.Common.{◌≡◌, ◌≢◌, ℕ, zero, suc, ◌+◌, ◌<◌, eqb, Bool, true, false, List, ◌∷◌, length, get_or, set, Option, Some, None, refl, ap, sym, ◌∙◌, subst, arith, suc-ne-zero, length-set, ⊎_elim}
+use mathlib.Core.Option.{none, some, some-injective}
 use mathlib.Core.Option as maybe
-use mathlib.Core.List.{IsPrefix}
-use lib.ListN.{get_elem?}
+use lib.ListN.{get_elem?, length-map}
+use lib.Seq.{map-set}
 use prog.Atomic.{either}
-use Rattle.atomic_table.specs.Table.{State, Act as Move, step, keeps, takes, gives, Valid, stepped, carried_after, put_back, Allows}
-use Rattle.atomic_table.proofs.Lists.{set_again, exchanged}
+use Rattle.atomic_table.specs.Table.{State, Act as Move, step, keeps, takes, Valid, stepped, carried_after, Allows}
+use Rattle.atomic_table.proofs.Lists.{at_set, set_else, exchanged}
+use Rattle.zns_types.specs.declared.fields.GeometryFields.{GeometryFields}
+use Rattle.zone_cell.specs.Cells.{Cell}
 use Rattle.zone_model.specs.declared.act.Act.{Act}
 use Rattle.zone_model.specs.Kept.{KeptActs}
-use Rattle.zone_model.specs.Sessions.{acts_of}
-use Rattle.zone_desk.specs.Stocks.{Kept, stock_at, with_act, journal_at}
-use Rattle.zone_desk.specs.Rules.{Slot, word_of, home_of, Holds, Stands, Fits, Rule}
-use Rattle.zone_desk.specs.Sights.{with_journal, acts_out, log_of, journal_after, committed, gave}
-use Rattle.zone_desk.specs.Plays.{Mine, Took, Takes, Commits, Releases}
+use Rattle.drive_book.specs.declared.book.Book.{Book}
+use Rattle.zone_desk.specs.Parts.{zone_at, AreAt, ledger_at, journal_at}
+use Rattle.zone_desk.specs.Rules.{word_of, home_of, HoldsBook, HoldsCells, Apart, Fits, IsOut, HasBook, HasCell, Rule}
+use Rattle.zone_desk.specs.Sights.{missed_if, with_cells, with_journal}
+use Rattle.zone_desk.specs.Plays.{Mine, TookBook, TookZone, TakesBook, TakesZone, Compares}
 use Rattle.zone_desk.specs.declared.plan.Plan.{Plan}
+use Rattle.zone_desk.specs.declared.slot.Slot.{Slot}
+use Rattle.zone_desk.specs.declared.slot.Slot.TheVariants.{Ledger, Zone}
 use Rattle.zone_desk.specs.declared.sight.Kind.TheVariants.{Queue}
 use Rattle.zone_desk.specs.declared.sight.Standing.{Standing}
-use Rattle.zone_desk.specs.declared.sight.Standing.TheVariants.{Free, Live, Joined}
 use Rattle.zone_desk.specs.declared.sight.Sight.{Sight}
-use Rattle.zone_desk.proofs.Lists.{prefix_self, prefix_more, acts_of-own, acts_of-other}
-use Rattle.zone_desk.proofs.Views.{at_within, at_same, each_set, spares_set, spare_le, alone_set, out_new}
+use Rattle.zone_desk.proofs.Lists.{prefix_shorter}
+use Rattle.zone_desk.proofs.Parts.{at-zone, all-at}
+use Rattle.zone_desk.proofs.Views.{at_same, at_some, set_at, map_at, words_again, each_set, spares_set, spare_le, alone_set, out_new, out_set}
 
-abbrev St : Type 0
+abbrev pub St : Type 0
 St = State Slot Sight
 
-abbrev Homes : Type 0
+abbrev pub Homes : Type 0
 Homes = List (maybe.Option Slot)
+
+abbrev pub Holders : Type 0
+Holders = List (Option ℕ)
 
 abbrev Goes : Plan → St → ℕ → ℕ → Mine → (Mine → Type 0) → ℕ → Type 0
 Goes plan s i id me then x = (w : Sight) × (a : Move Slot) × Valid s.homes me.1 a × Rule plan (stepped s i x id me.1 w a) × then (w, carried_after me.1 a)
 
--- ---- a take
+-- ---- a step that changes a view alone
 
-words_again : (ws : List ℕ) (m n : ℕ) → ws ≡ m ∷ n ∷ [] → set ws 1 (get_or ws 1 0) ≡ ws
-words_again ws m n e = subst (λ (z : List ℕ). set z 1 (get_or z 1 0) ≡ z) (sym e) refl
+-- it stays of its queue
+abbrev Same : Sight → Sight → Type 0
+Same v w = w.kind ≡ Queue → (v.kind ≡ Queue) × (w.queue ≡ v.queue)
 
--- the word was held, and nothing changes
-stays : (plan : Plan) (s : St) (r : Rule plan s) (id : ℕ) (me : Mine) (then : Mine → Type 0) → get_elem? s.views id ≡ some me.0 → then me → Goes plan s 1 id me then (get_or s.words 1 0)
-stays plan s r id me then at told =
-    let ws = words_again s.words (length r.log) (word_of r.holder) r.words in
-    let vs = set_again s.views id me.0 at in
-    (me.0, keeps, tt, subst (Rule plan) (λ k. record { words = sym ws k; homes = s.homes; views = sym vs k }) r, told)
+looks : (plan : Plan) (s : St) (r : Rule plan s) (i id : ℕ) (v w : Sight) → i < length s.words → get_elem? s.views id ≡ some v → Fits plan r.log r.standings r.holder r.holders id w → w.spare ≡ v.spare → Same v w → (HasBook v → HasBook w) → ((z : ℕ) → HasCell z v → HasCell z w)
+    → Rule plan record { words = set s.words i (get_or s.words i 0); homes = s.homes; views = set s.views id w }
+looks plan s r i id v w near at fits spare same book cells =
+    let sum = spares_set s.views id v w at in
+    let whole = r.sum in
+    record {
+      log = r.log;
+      standings = r.standings;
+      holder = r.holder;
+      holders = r.holders;
+      words = words_again s.words i near ∙ r.words;
+      wide = r.wide;
+      book = r.book;
+      cells = r.cells;
+      out_book = out_set HasBook r.holder s.views id v w at book r.out_book;
+      out_cells = λ z h e. out_set (HasCell z) h s.views id v w at (cells z) (r.out_cells z h e);
+      sum = omega arith;
+      small = r.small;
+      each = each_set (Fits plan r.log r.standings r.holder r.holders) s.views id w (λ j u ne e. r.each j u e) fits;
+      alone = alone_set s.views id v w at same r.alone;
+      stands = r.stands;
+      beyond = r.beyond;
+    }
 
-holds_taken : (j : KeptActs) (id other : ℕ) (o : Option KeptActs) → other ≢ id → Holds other None j o → Holds other (Some id) j o
+word_count : (plan : Plan) (s : St) (r : Rule plan s) → length s.words ≡ suc (length s.homes)
+word_count plan s r = ap (λ (ws : List ℕ). length ws) r.words ∙ ap (λ (n : ℕ). suc (suc n)) (length-map r.holders word_of) ∙ ap suc (sym r.wide)
+
+-- what a take that found its word held leaves true
+record Misses (plan : Plan) (id : ℕ) (v w : Sight) : Type 0 where
+  fits : (log : List Act) (standings : List Standing) (holder : Option ℕ) (holders : Holders) → Fits plan log standings holder holders id v → Fits plan log standings holder holders id w
+  spare : w.spare ≡ v.spare
+  same : Same v w
+  book : HasBook v → HasBook w
+  cells : (z : ℕ) → HasCell z v → HasCell z w
+
+misses : (plan : Plan) (counts : Bool) (id word : ℕ) (v : Sight) → Misses plan id v (missed_if counts v word)
+misses plan true id word v = record {
+  fits = λ log standings holder holders f. record {
+    seen = f.seen;
+    heard = f.heard;
+    given_back = f.given_back;
+    journal = f.journal;
+    cells = f.cells;
+    apart = f.apart;
+    queue = f.queue;
+    main = f.main;
+    idle = f.idle;
+    note = f.note;
+    spent = f.spent;
+  };
+  spare = refl;
+  same = λ q. (q, refl);
+  book = λ b. b;
+  cells = λ z b. b;
+}
+misses plan false id word v = record { fits = λ log standings holder holders f. f; spare = refl; same = λ q. (q, refl); book = λ b. b; cells = λ z b. b }
+
+-- ---- a zone's word
+
+more_cells : (g : GeometryFields) (id : ℕ) (holders : Holders) (log : List Act) (z : ℕ) (cells : List Cell) → get_elem? holders z ≡ some None → HoldsCells g id holders log cells → ((i : ℕ) (d : Cell) → get_elem? cells i ≡ some d → d.zone ≢ z)
+    → HoldsCells g id (set holders z (Some id)) log (zone_at g log z ∷ cells)
+more_cells g id holders log z cells free old apart zero d e =
+    let is : zone_at g log z ≡ d = some-injective (zone_at g log z) d e in
+    let zone : (zone_at g log z).zone ≡ z = at-zone g log z in
+    subst (λ (x : Cell). (get_elem? (set holders z (Some id)) x.zone ≡ some (Some id)) × (x ≡ zone_at g log x.zone)) is (ap (get_elem? (set holders z (Some id))) zone ∙ set_at holders z None (Some id) free, ap (zone_at g log) (sym zone))
+more_cells g id holders log z cells free old apart (suc i) d e = let h = old i d e in (set_else holders z d.zone (Some id) (apart i d e) ∙ h.0, h.1)
+
+more_apart : (c : Cell) (cells : List Cell) → Apart cells → ((i : ℕ) (d : Cell) → get_elem? cells i ≡ some d → d.zone ≢ c.zone) → Apart (c ∷ cells)
+more_apart c cells old apart zero zero a b ea eb same = refl
+more_apart c cells old apart zero (suc j) a b ea eb same = absurd (apart j b eb (sym same ∙ ap (λ (x : Cell). x.zone) (sym (some-injective c a ea))))
+more_apart c cells old apart (suc i) zero a b ea eb same = absurd (apart i a ea (same ∙ ap (λ (x : Cell). x.zone) (sym (some-injective c b eb))))
+more_apart c cells old apart (suc i) (suc j) a b ea eb same = ap suc (old i j a b ea eb same)
+
+-- the zone's word was free
+zone_free : (plan : Plan) (s : St) (r : Rule plan s) (id z : ℕ) (me : Mine) → get_elem? r.holders z ≡ some None → me.0.kind ≡ Queue → get_elem? s.views id ≡ some me.0
+    → Goes plan s (suc (suc z)) id me (λ m'. TookZone (z + 2) me m') 1
+zone_free plan s r id z me free is at =
+    let v : Sight = me.0 in
+    let c : Cell = zone_at plan.fields r.log z in
+    let zone : c.zone ≡ z = at-zone plan.fields r.log z in
+    let w : Sight = with_cells v (c ∷ v.cells) in
+    let f = r.each id v at in
+    let holders' : Holders = set r.holders z (Some id) in
+    let home = r.cells z None free in
+    let sum = spares_set s.views id v w at in
+    let whole = r.sum in
+    let mine : (i : ℕ) (d : Cell) → get_elem? v.cells i ≡ some d → d.zone ≢ z
+    = λ i d e same. cc (at_same r.holders z (Some id) None (subst (λ (y : ℕ). get_elem? r.holders y ≡ some (Some id)) same (f.cells i d e).0) free) in (
+      w,
+      takes (suc z) (Zone c),
+      home,
+      record {
+        log = r.log;
+        standings = r.standings;
+        holder = r.holder;
+        holders = holders';
+        words = ap (λ (ws : List ℕ). set ws (suc (suc z)) 1) r.words ∙ ap (λ (ws : List ℕ). length r.log ∷ word_of r.holder ∷ ws) (sym (map-set word_of r.holders z (Some id)));
+        wide = length-set s.homes (suc z) none ∙ (r.wide ∙ ap suc (sym (length-set r.holders z (Some id))));
+        book = set_else s.homes (suc z) 0 none (λ e. suc-ne-zero z (sym e)) ∙ r.book;
+        cells = λ y h e. ⊎_elim
+            (λ (t : (y ≡ z) × (Some id ≡ h)). subst (λ (k : ℕ). get_elem? (set s.homes (suc z) none) (suc k) ≡ some (home_of h (Zone (zone_at plan.fields r.log k)))) (sym t.0)
+            (subst (λ (g : Option ℕ). get_elem? (set s.homes (suc z) none) (suc z) ≡ some (home_of g (Zone c))) t.1 (set_at s.homes (suc z) (some (Zone c)) none home)))
+            (λ (t : (y ≢ z) × (get_elem? r.holders y ≡ some h)). set_else s.homes (suc z) (suc y) none (λ e'. t.0 (omega arith)) ∙ r.cells y h t.1)
+            (at_set r.holders z y (Some id) h e);
+        out_book = out_set HasBook r.holder s.views id v w at (λ b. b) r.out_book;
+        out_cells = λ y h e. ⊎_elim
+            (λ (t : (y ≡ z) × (Some id ≡ h)). subst (λ (g : Option ℕ). IsOut (HasCell y) g (set s.views id w)) t.1 (out_new (HasCell y) s.views id v w at (0, (c, refl, zone ∙ sym t.0))))
+            (λ (t : (y ≢ z) × (get_elem? r.holders y ≡ some h)). out_set (HasCell y) h s.views id v w at (λ b. (suc b.0, (b.1.0, b.1.1, b.1.2))) (r.out_cells y h t.1))
+            (at_set r.holders z y (Some id) h e);
+        sum = omega arith;
+        small = r.small;
+        each = each_set (Fits plan r.log r.standings r.holder holders') s.views id w
+            (λ j u ne e. let g = r.each j u e in
+            record {
+              seen = g.seen;
+              heard = g.heard;
+              given_back = g.given_back;
+              journal = g.journal;
+              cells = λ i d e'. let h = g.cells i d e' in
+                  (set_else r.holders z d.zone (Some id) (λ (same : d.zone ≡ z). cc (at_same r.holders z (Some j) None (subst (λ (y : ℕ). get_elem? r.holders y ≡ some (Some j)) same h.0) free)) ∙ h.0, h.1);
+              apart = g.apart;
+              queue = g.queue;
+              main = g.main;
+              idle = g.idle;
+              note = g.note;
+              spent = g.spent;
+            })
+            record {
+              seen = f.seen;
+              heard = f.heard;
+              given_back = f.given_back;
+              journal = f.journal;
+              cells = more_cells plan.fields id r.holders r.log z v.cells free f.cells mine;
+              apart = more_apart c v.cells f.apart (λ i d e same. mine i d e (same ∙ zone));
+              queue = f.queue;
+              main = f.main;
+              idle = λ ne. absurd (ne is);
+              note = λ k. absurd (cc (k, is));
+              spent = λ k. absurd (cc (k, is));
+            };
+        alone = alone_set s.views id v w at (λ q. (q, refl)) r.alone;
+        stands = r.stands;
+        beyond = r.beyond;
+      },
+      (c, refl, ap (λ (k : ℕ). (suc k, Zone c) ∷ me.1) (sym zone), ap (λ (k : ℕ). k + 2) zone),
+    )
+
+zone_none : (plan : Plan) (s : St) (r : Rule plan s) (z : ℕ) (h : Option ℕ) → get_elem? r.holders z ≡ some h → get_or s.words (suc (suc z)) 0 ≡ 0 → get_elem? r.holders z ≡ some None
+zone_none plan s r z None e found = e
+zone_none plan s r z (Some j) e found =
+    let n : 1 ≡ 0 = sym (map_at word_of r.holders z (Some j) e) ∙ (sym (ap (λ (ws : List ℕ). get_or ws (suc (suc z)) 0) r.words) ∙ found) in absurd (suc-ne-zero 0 n)
+
+-- the zone's word becomes 1 where it was free, and else the view becomes w
+zone_taken : (plan : Plan) (slots id z : ℕ) (me : Mine) (w : Sight) (then : ℕ → Mine → Type 0) → me.0.kind ≡ Queue → z + 1 < slots
+    → ((x : ℕ) (m' : Mine) → x ≡ 0 → TookZone (z + 2) me m' → then x m') → ((x : ℕ) → x ≢ 0 → then x (w, me.1))
+    → ((log : List Act) (standings : List Standing) (holder : Option ℕ) (holders : Holders) → Fits plan log standings holder holders id me.0 → Fits plan log standings holder holders id w) → w.spare ≡ me.0.spare → Same me.0 w → (HasBook me.0 → HasBook w) → ((z : ℕ) → HasCell z me.0 → HasCell z w)
+    → Allows (Rule plan) slots id me (suc (suc z)) (λ n. either (eqb n 0) 1 n) then
+zone_taken plan slots id z me w then is near hit miss fits spare same book cells s r wide at small =
+    let x : ℕ = get_or s.words (suc (suc z)) 0 in
+    let long = r.wide in
+    let count = word_count plan s r in
+    let there = at_some r.holders z (omega arith) in
+    exchanged x 0 1 (Goes plan s (suc (suc z)) id me (then x))
+    (λ (zero_found : x ≡ 0).
+    let t = zone_free plan s r id z me (zone_none plan s r z there.0 there.1 zero_found) is at in
+    (t.0, t.1, t.2, t.3, hit x (t.0, carried_after me.1 t.1) zero_found t.4))
+    (λ (held : x ≢ 0).
+    (w, keeps, tt, looks plan s r (suc (suc z)) id me.0 w (omega arith) at (fits r.log r.standings r.holder r.holders (r.each id me.0 at)) spare same book cells, miss x held))
+
+pub taking_zone : (plan : Plan) (counts : Bool) (slots id z : ℕ) (me : Mine) → me.0.kind ≡ Queue → z + 1 < slots → Allows (Rule plan) slots id me (z + 2) (λ n. either (eqb n 0) 1 n) (TakesZone counts (step slots (z + 2) 0 1 none) me)
+taking_zone plan counts slots id z me is near =
+    let e : suc (suc z) ≡ z + 2 = omega arith in
+    let m = misses plan counts id (z + 2) me.0 in
+    subst (λ (k : ℕ). Allows (Rule plan) slots id me k (λ n. either (eqb n 0) 1 n) (TakesZone counts (step slots (z + 2) 0 1 none) me)) e
+    (zone_taken plan slots id z me (missed_if counts me.0 (z + 2)) (TakesZone counts (step slots (z + 2) 0 1 none) me) is near
+    (λ x m' found t. ((λ _. t), λ ne. absurd (ne found))) (λ x held. ((λ found. absurd (held found)), λ _. refl)) m.fits m.spare m.same m.book m.cells)
+
+-- ---- the book's word
+
+holds_taken : (j : KeptActs) (id other : ℕ) (o : Option KeptActs) → other ≢ id → HoldsBook other None j o → HoldsBook other (Some id) j o
 holds_taken j id other None ne h = λ e. ne (cc e)
 holds_taken j id other (Some p) ne h = absurd (cc (h.0))
 
--- the word was free
-take_free : (plan : Plan) (s : St) (r : Rule plan s) (id : ℕ) (me : Mine) → me.0.geometry ≡ plan.fields → r.holder ≡ None → me.0.kind ≡ Queue → get_elem? s.views id ≡ some me.0
-    → Goes plan s 1 id me (λ m'. Took me m') 1
-take_free plan s r id me same free is at =
+-- the book's word was free
+book_free : (plan : Plan) (s : St) (r : Rule plan s) (id : ℕ) (me : Mine) → me.0.geometry ≡ plan.fields → r.holder ≡ None → me.0.kind ≡ Queue → get_elem? s.views id ≡ some me.0 → Goes plan s 1 id me (λ m'. TookBook me m') 1
+book_free plan s r id me same free is at =
     let v : Sight = me.0 in
     let j : KeptActs = journal_at plan.room r.log in
-    let k : Kept = stock_at plan.fields j in
+    let b : Book = ledger_at plan.fields j in
     let w : Sight = with_journal v j in
     let f = r.each id v at in
-    let homes : s.homes ≡ some (Some k) ∷ [] = r.homes ∙ ap (λ (h : Option ℕ). home_of h k ∷ []) free in
-    let words : s.words ≡ length r.log ∷ 0 ∷ [] = r.words ∙ ap (λ (h : Option ℕ). length r.log ∷ word_of h ∷ []) free in
+    let home : get_elem? s.homes 0 ≡ some (some (Ledger b)) = r.book ∙ ap (λ (h : Option ℕ). some (home_of h (Ledger b))) free in
     let sum = spares_set s.views id v w at in
     let most = spare_le s.views id v at in
     let whole = r.sum in
     let little = r.small in (
       w,
-      takes 0 (Some k),
-      ap (λ (hs : Homes). get_elem? hs 0) homes,
+      takes 0 (Ledger b),
+      home,
       record {
         log = r.log;
         standings = r.standings;
         holder = Some id;
-        words = ap (λ (ws : List ℕ). set ws 1 1) words;
-        homes = ap (λ (hs : Homes). set hs 0 none) homes;
-        out = out_new s.views id v w at (λ e. absurd (cc e));
+        holders = r.holders;
+        words = ap (λ (ws : List ℕ). set ws 1 1) r.words;
+        wide = length-set s.homes 0 none ∙ r.wide;
+        book = set_at s.homes 0 (some (Ledger b)) none home;
+        cells = λ z h e. set_else s.homes 0 (suc z) none (suc-ne-zero z) ∙ r.cells z h e;
+        out_book = out_new HasBook s.views id v w at (λ e. cc e);
+        out_cells = λ z h e. out_set (HasCell z) h s.views id v w at (λ b. b) (r.out_cells z h e);
         sum = omega arith;
         small = r.small;
-        each = each_set (Fits plan.room r.log r.standings (Some id)) s.views id w
+        each = each_set (Fits plan r.log r.standings (Some id) r.holders) s.views id w
             (λ i u ne e. let g = r.each i u e in
             record {
               seen = g.seen;
+              heard = g.heard;
               given_back = g.given_back;
-              journal = holds_taken j id i u.journal ne (subst (λ (h : Option ℕ). Holds i h j u.journal) free g.journal);
+              journal = holds_taken j id i u.journal ne (subst (λ (h : Option ℕ). HoldsBook i h j u.journal) free g.journal);
+              cells = g.cells;
+              apart = g.apart;
               queue = g.queue;
               main = g.main;
               idle = g.idle;
-              spent = g.spent;
-            })
-            record { seen = f.seen; given_back = f.given_back; journal = (refl, refl); queue = f.queue; main = f.main; idle = λ ne. absurd (ne is); spent = f.spent };
-        alone = alone_set s.views id v w at (λ q. (q, refl)) r.alone;
-        stands = r.stands;
-        beyond = r.beyond;
-      },
-      (j, refl, ap (λ g. (0, Some (stock_at g j)) ∷ me.1) (sym same), record { seen = f.seen; own = (f.queue is).1; room = omega arith; small = omega arith }),
-    )
-
-nobody : (plan : Plan) (s : St) (r : Rule plan s) (h : Option ℕ) → r.holder ≡ h → get_or s.words 1 0 ≡ 0 → r.holder ≡ None
-nobody plan s r None e found = e
-nobody plan s r (Some id) e found =
-    let n : 1 ≡ 0 = sym (ap (λ (ws : List ℕ). get_or ws 1 0) (r.words ∙ ap (λ (x : Option ℕ). length r.log ∷ word_of x ∷ []) e)) ∙ found in absurd (suc-ne-zero 0 n)
-
-pub taking : (plan : Plan) (slots id : ℕ) (me : Mine) → me.0.geometry ≡ plan.fields → me.0.kind ≡ Queue → Allows (Rule plan) slots id me 1 (λ n. either (eqb n 0) 1 n) (Takes (step slots 1 0 1 none) me)
-taking plan slots id me same is s r wide at small =
-    let x : ℕ = get_or s.words 1 0 in
-    exchanged x 0 1 (Goes plan s 1 id me (Takes (step slots 1 0 1 none) me x))
-    (λ (hit : x ≡ 0).
-    let t = take_free plan s r id me same (nobody plan s r r.holder refl hit) is at in
-    (t.0, t.1, t.2, t.3, ((λ _. t.4), λ ne. absurd (ne hit))))
-    (λ (miss : x ≢ 0). stays plan s r id me (Takes (step slots 1 0 1 none) me x) at ((λ e. absurd (miss e)), λ _. refl))
-
--- ---- a commit
-
--- a seat that has a journal holds the word, and it is the desk's
-has_journal : (j : KeptActs) (id : ℕ) (holder : Option ℕ) (o : Option KeptActs) → o ≢ None → Holds id holder j o → (holder ≡ Some id) × (o ≡ Some j)
-has_journal j id holder None has h = absurd (has refl)
-has_journal j id holder (Some p) has h = (h.0, ap (λ (x : KeptActs). Some x) h.1)
-
-holds_other : (j j' : KeptActs) (id other : ℕ) (holder : Option ℕ) (o : Option KeptActs) → holder ≡ Some id → other ≢ id → Holds other holder j o → Holds other (Some id) j' o
-holds_other j j' id other holder None is ne h = λ e. ne (cc e)
-holds_other j j' id other holder (Some p) is ne h = absurd (ne (cc (is, h.0)))
-
-stands_more : (log : List Act) (standings : List Standing) (a : Act) → get_elem? standings a.queue ≡ some Live → (q : ℕ) (x : Standing) → get_elem? standings q ≡ some x → Stands log q x → Stands (log ++ a ∷ []) q x
-stands_more log standings a live q Free at h = acts_of-other q log a (λ (e : a.queue ≡ q). cc (at_same standings q Live Free (subst (λ (z : ℕ). get_elem? standings z ≡ some Live) e live) at)) ∙ h
-stands_more log standings a live q Live at h = tt
-stands_more log standings a live q (Joined own seen) at h =
-    (acts_of-other q log a (λ (e : a.queue ≡ q). cc (at_same standings q Live (Joined own seen) (subst (λ (z : ℕ). get_elem? standings z ≡ some Live) e live) at)) ∙ h.0, prefix_more seen log (a ∷ []) h.1)
-
-journal-more : (room : ℕ) (log : List Act) (a : Act) → with_act (journal_at room log) a ≡ journal_at room (log ++ a ∷ [])
-journal-more room log a =
-    let n : room - length log - 1 ≡ room - length (log ++ a ∷ []) = omega (arith, length-append log (a ∷ [])) in
-    λ i. record { acts = log ++ a ∷ []; spare = n i }
-
-pub committing : (plan : Plan) (slots id : ℕ) (me : Mine) (a : Act) → me.0.kind ≡ Queue → a.queue ≡ me.0.queue → 0 < me.0.spare → me.0.journal ≢ None
-    → Allows (Rule plan) slots id me 0 (λ n. (n + 1) % 2 ^ 64) (Commits a (step slots 0 1 0 none) me)
-committing plan slots id me a is mine some_spare some_journal s r wide at fits =
-    let v : Sight = me.0 in
-    let w : Sight = committed v a in
-    let room : ℕ = plan.room in
-    let log' : List Act = r.log ++ a ∷ [] in
-    let f = r.each id v at in
-    let q = f.queue is in
-    let has = has_journal (journal_at room r.log) id r.holder v.journal some_journal f.journal in
-    let sum = spares_set s.views id v w at in
-    let most = spare_le s.views id v at in
-    let whole = r.sum in
-    let little = r.small in
-    let x : ℕ = get_or s.words 0 0 in
-    let found : x ≡ length r.log = ap (λ (ws : List ℕ). get_or ws 0 0) r.words in
-    let long : length log' ≡ length r.log + 1 = length-append r.log (a ∷ []) in
-    let next : (x + 1) % 2 ^ 64 ≡ length log' = omega arith in
-    let live : get_elem? r.standings a.queue ≡ some Live = subst (λ (z : ℕ). get_elem? r.standings z ≡ some Live) (sym mine) q.0 in
-    let word : word_of r.holder ≡ 1 = ap word_of has.0 in
-    let after : journal_after v.journal a ≡ Some (journal_at room log') = ap (λ (o : Option KeptActs). journal_after o a) has.1 ∙ ap (λ (x : KeptActs). Some x) (journal-more room r.log a) in (
-      w,
-      keeps,
-      tt,
-      record {
-        log = log';
-        standings = r.standings;
-        holder = Some id;
-        words = ap (λ (ws : List ℕ). set ws 0 ((x + 1) % 2 ^ 64)) r.words ∙ (λ i. next i ∷ word i ∷ []);
-        homes = r.homes ∙ ap (λ (h : Option ℕ). home_of h (stock_at plan.fields (journal_at room r.log)) ∷ []) has.0;
-        out = out_new s.views id v w at (λ e. absurd (cc (sym after ∙ e)));
-        sum = omega arith;
-        small = r.small;
-        each = each_set (Fits room log' r.standings (Some id)) s.views id w
-            (λ i u ne e. let g = r.each i u e in
-            record {
-              seen = prefix_more u.seen r.log (a ∷ []) g.seen;
-              given_back = prefix_more u.given_back_log r.log (a ∷ []) g.given_back;
-              journal = holds_other (journal_at room r.log) (journal_at room log') id i r.holder u.journal has.0 ne g.journal;
-              queue = λ k. let y = g.queue k in
-                  (y.0, acts_of-other u.queue r.log a (λ (same : a.queue ≡ u.queue). ne (sym (r.alone id i v u at e is k (sym mine ∙ same)))) ∙ y.1, y.2);
-              main = g.main;
-              idle = g.idle;
-              spent = g.spent;
-            })
-            record {
-              seen = subst (λ (o : Option KeptActs). IsPrefix (acts_out o ++ a ∷ []) log') (sym has.1) (prefix_self log');
-              given_back = prefix_more v.given_back_log r.log (a ∷ []) f.given_back;
-              journal = subst (Holds id (Some id) (journal_at room log')) (sym after) (refl, refl);
-              queue = λ k. (
-                q.0,
-                acts_of-own v.queue r.log a mine ∙ ap (λ (z : List Act). z ++ a ∷ []) q.1,
-                ap (λ (o : Option KeptActs). acts_of v.queue (acts_out o ++ a ∷ [])) has.1 ∙ (acts_of-own v.queue r.log a mine ∙ ap (λ (z : List Act). z ++ a ∷ []) q.1),
-              );
-              main = λ k. absurd (cc (k, is));
-              idle = λ ne. absurd (ne is);
-              spent = λ k. absurd (cc (k, is));
-            };
-        alone = alone_set s.views id v w at (λ k. (k, refl)) r.alone;
-        stands = λ z y e. stands_more r.log r.standings a live z y e (r.stands z y e);
-        beyond = λ z far. acts_of-other z r.log a (λ (e : a.queue ≡ z). let near = at_within r.standings a.queue Live live in absurd (omega arith)) ∙ r.beyond z far;
-      },
-      refl,
-    )
-
--- ---- a release
-
-holds_freed : (j : KeptActs) (id other : ℕ) (holder : Option ℕ) (o : Option KeptActs) → holder ≡ Some id → other ≢ id → Holds other holder j o → Holds other None j o
-holds_freed j id other holder None is ne h = λ e. absurd (cc e)
-holds_freed j id other holder (Some p) is ne h = absurd (ne (cc (is, h.0)))
-
-either_prefix : (b : Bool) (xs ys log : List Act) → IsPrefix xs log → IsPrefix ys log → IsPrefix (cond b xs ys) log
-either_prefix true xs ys log p q = p
-either_prefix false xs ys log p q = q
-
-pub releasing : (plan : Plan) (slots id : ℕ) (me : Mine) (y : Slot) (j : KeptActs) (more : List (ℕ × Slot)) → me.0.geometry ≡ plan.fields → me.0.kind ≡ Queue → me.0.journal ≡ Some j → me.1 ≡ (0, y) ∷ more → y ≡ Some (stock_at me.0.geometry j)
-    → Allows (Rule plan) slots id me 1 (λ _. 0) (λ _. Releases (step slots 1 0 0 none) me 0)
-releasing plan slots id me y j more same is out has whole_stock s r wide at fits =
-    let v : Sight = me.0 in
-    let w : Sight = gave v in
-    let f = r.each id v at in
-    let home : KeptActs = journal_at plan.room r.log in
-    let k : Kept = stock_at plan.fields home in
-    let mine = has_journal home id r.holder v.journal (λ e. absurd (cc (e, out))) f.journal in
-    let is_home : j ≡ home = cc (out, mine.1) in
-    let back : y ≡ Some k = whole_stock ∙ (ap (λ g. Some (stock_at g j)) same ∙ ap (λ (x : KeptActs). Some (stock_at plan.fields x)) is_home) in
-    let acts : log_of v ≡ r.log = ap acts_out mine.1 in
-    let sum = spares_set s.views id v w at in
-    let whole = r.sum in (
-      w,
-      gives,
-      tt,
-      record {
-        log = r.log;
-        standings = r.standings;
-        holder = None;
-        words = ap (λ (ws : List ℕ). set ws 1 0) r.words;
-        homes = ap (put_back s.homes) has ∙ (ap (λ (z : Slot). set s.homes 0 (some z)) back ∙ ap (λ (hs : Homes). set hs 0 (some (Some k))) r.homes);
-        out = tt;
-        sum = omega arith;
-        small = r.small;
-        each = each_set (Fits plan.room r.log r.standings None) s.views id w
-            (λ i u ne e. let g = r.each i u e in
-            record {
-              seen = g.seen;
-              given_back = g.given_back;
-              journal = holds_freed home id i r.holder u.journal mine.0 ne g.journal;
-              queue = g.queue;
-              main = g.main;
-              idle = g.idle;
+              note = g.note;
               spent = g.spent;
             })
             record {
               seen = f.seen;
-              given_back = either_prefix v.uncommitted (log_of v) v.given_back_log r.log (subst (λ (l : List Act). IsPrefix l r.log) (sym acts) (prefix_self r.log)) f.given_back;
-              journal = λ e. absurd (cc e);
+              heard = f.heard;
+              given_back = f.given_back;
+              journal = (refl, refl);
+              cells = f.cells;
+              apart = f.apart;
               queue = f.queue;
               main = f.main;
-              idle = λ _. refl;
-              spent = f.spent;
+              idle = λ ne. absurd (ne is);
+              note = λ k. absurd (cc (k, is));
+              spent = λ k. absurd (cc (k, is));
             };
         alone = alone_set s.views id v w at (λ q. (q, refl)) r.alone;
         stands = r.stands;
         beyond = r.beyond;
       },
-      refl,
+      (
+        j,
+        refl,
+        ap (λ (g : GeometryFields). (0, Ledger (ledger_at g j)) ∷ me.1) (sym same),
+        record {
+          seen = f.seen;
+          own = (f.queue is).1;
+          room = omega arith;
+          small = omega arith;
+          cells = subst (λ (g : GeometryFields). AreAt g r.log v.cells) (sym same) (all-at plan.fields r.log v.cells (λ i c e. (f.cells i c e).1));
+        },
+      ),
     )
+
+book_none : (plan : Plan) (s : St) (r : Rule plan s) (h : Option ℕ) → r.holder ≡ h → get_or s.words 1 0 ≡ 0 → r.holder ≡ None
+book_none plan s r None e found = e
+book_none plan s r (Some j) e found =
+    let n : 1 ≡ 0 = sym (ap (λ (ws : List ℕ). get_or ws 1 0) r.words ∙ ap word_of e) ∙ found in absurd (suc-ne-zero 0 n)
+
+-- the book's word becomes 1 where it was free, and else the view becomes w
+book_taken : (plan : Plan) (slots id : ℕ) (me : Mine) → me.0.geometry ≡ plan.fields → (w : Sight) (then : ℕ → Mine → Type 0) → me.0.kind ≡ Queue → ((x : ℕ) (m' : Mine) → x ≡ 0 → TookBook me m' → then x m') → ((x : ℕ) → x ≢ 0 → then x (w, me.1))
+    → ((log : List Act) (standings : List Standing) (holder : Option ℕ) (holders : Holders) → Fits plan log standings holder holders id me.0 → Fits plan log standings holder holders id w) → w.spare ≡ me.0.spare → Same me.0 w → (HasBook me.0 → HasBook w) → ((z : ℕ) → HasCell z me.0 → HasCell z w)
+    → Allows (Rule plan) slots id me 1 (λ n. either (eqb n 0) 1 n) then
+book_taken plan slots id me same w then is hit miss fits spare kept book cells s r wide at small =
+    let x : ℕ = get_or s.words 1 0 in
+    let long = r.wide in
+    let count = word_count plan s r in
+    exchanged x 0 1 (Goes plan s 1 id me (then x))
+    (λ (zero_found : x ≡ 0).
+    let t = book_free plan s r id me same (book_none plan s r r.holder refl zero_found) is at in
+    (t.0, t.1, t.2, t.3, hit x (t.0, carried_after me.1 t.1) zero_found t.4))
+    (λ (held : x ≢ 0). (w, keeps, tt, looks plan s r 1 id me.0 w (omega arith) at (fits r.log r.standings r.holder r.holders (r.each id me.0 at)) spare kept book cells, miss x held))
+
+pub taking_book : (plan : Plan) (counts : Bool) (slots id : ℕ) (me : Mine) → me.0.geometry ≡ plan.fields → me.0.kind ≡ Queue → Allows (Rule plan) slots id me 1 (λ n. either (eqb n 0) 1 n) (TakesBook counts (step slots 1 0 1 none) me)
+taking_book plan counts slots id me same is =
+    let m = misses plan counts id 1 me.0 in
+    book_taken plan slots id me same (missed_if counts me.0 1) (TakesBook counts (step slots 1 0 1 none) me) is
+    (λ x m' found t. ((λ _. t), λ ne. absurd (ne found))) (λ x held. ((λ found. absurd (held found)), λ _. refl)) m.fits m.spare m.same m.book m.cells
+
+-- ---- a load that compares what was seen with what was told
+
+pub comparing : (plan : Plan) (slots id : ℕ) (me : Mine) → Allows (Rule plan) slots id me 0 (λ n. n) (Compares (step slots 0 0 0 none) me)
+comparing plan slots id me s r wide at fits =
+    let f = r.each id me.0 at in
+    let long = r.wide in
+    let count = word_count plan s r in
+    (me.0, keeps, tt, looks plan s r 0 id me.0 me.0 (omega arith) at f refl (λ q. (q, refl)) (λ b. b) (λ _ b. b), (refl, λ le. prefix_shorter me.0.heard me.0.seen r.log f.heard f.seen le))

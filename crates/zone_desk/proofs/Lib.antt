@@ -1,8 +1,12 @@
 pub mod Lists
 pub mod Views
-pub mod Stocked
+pub mod Parts
 pub mod Carried
 pub mod Given
 pub mod Keeps
+pub mod Commits
+pub mod Frees
 pub mod Seats
 pub mod Ends
+pub mod Shelves
+pub mod Notes

@@ -1,6 +1,8 @@
 -- What stays of the views where one changes, or one is added.
-use Rattle.std.proofs.Common.{◌≡◌, ◌≢◌, ℕ, zero, suc, ◌+◌, ◌<◌, ◌≤◌, ◌⊎◌, List, [], ◌∷◌, ◌++◌, length, set, Option, Some, None, refl, ap, sym, ◌∙◌, subst, arith, inl, inr, ⊎_elim}
+use Rattle.std.proofs.Common.{◌≡◌, ◌≢◌, ℕ, zero, suc, ◌+◌, ◌<◌, ◌≤◌, ◌⊎◌, List, [], ◌∷◌, ◌++◌, length, map, get_or, set, Option, Some, None, refl, ap, sym, ◌∙◌, subst, arith, inl, inr, ⊎_elim}
 use mathlib.Core.Option.{some, some-injective, some-ne-none}
+use mathlib.Core.Logic.{dite}
+use native.Mathlib.Decide.{ℕ_discrete}
 use lib.ListN.{get_elem?}
 use Rattle.atomic_table.proofs.Lists.{at_set, at_longer, set_else}
 use Rattle.zone_desk.specs.Rules.{Alone, IsOut, spares}
@@ -40,6 +42,27 @@ module _ {A : Type 0} where
   each_end P l w others mine j u e =
       ⊎_elim (λ (t : get_elem? l j ≡ some u). others j u t) (λ (t : (j ≡ length l) × (w ≡ u)). subst (λ (k : ℕ). P k u) (sym t.0) (subst (P (length l)) t.1 mine)) (at_end l w u j e)
 
+  pub at_some : (l : List A) (i : ℕ) → i < length l → (a : A) × (get_elem? l i ≡ some a)
+  at_some [] i h = absurd (omega arith)
+  at_some (x ∷ xs) zero h = (x, refl)
+  at_some (x ∷ xs) (suc i) h = at_some xs i (omega arith)
+
+  pub map_at : (f : A → ℕ) (l : List A) (i : ℕ) (a : A) → get_elem? l i ≡ some a → get_or (map f l) i 0 ≡ f a
+  map_at f [] i a e = absurd (some-ne-none a (sym e))
+  map_at f (x ∷ xs) zero a e = ap f (some-injective x a e)
+  map_at f (x ∷ xs) (suc i) a e = map_at f xs i a e
+
+  -- what stands in a mapped list was made of what stood there
+  pub map_back : {B : Type 0} (f : A → B) (l : List A) (i : ℕ) (b : B) → get_elem? (map f l) i ≡ some b → (a : A) × ((get_elem? l i ≡ some a) × (f a ≡ b))
+  map_back f [] i b e = absurd (some-ne-none b (sym e))
+  map_back f (x ∷ xs) zero b e = (x, (refl, some-injective (f x) b e))
+  map_back f (x ∷ xs) (suc i) b e = map_back f xs i b e
+
+pub words_again : (ws : List ℕ) (i : ℕ) → i < length ws → set ws i (get_or ws i 0) ≡ ws
+words_again [] i h = absurd (omega arith)
+words_again (x ∷ xs) zero h = refl
+words_again (x ∷ xs) (suc i) h = ap (λ z. x ∷ z) (words_again xs i (omega arith))
+
 -- ---- the sum of the spares
 
 pub spares_set : (l : List Sight) (i : ℕ) (v w : Sight) → get_elem? l i ≡ some v → spares (set l i w) + v.spare ≡ spares l + w.spare
@@ -76,39 +99,42 @@ alone_set views id v w at same al i j a b ea eb ka kb q =
     (at_set views id j w b eb))
     (at_set views id i w a ea)
 
--- so does a new one whose queue no pass has
-pub alone_end : (views : List Sight) (w : Sight) → ((j : ℕ) (u : Sight) → get_elem? views j ≡ some u → u.kind ≡ Queue → u.queue ≢ w.queue) → Alone views → Alone (views ++ w ∷ [])
+-- so does a new one, where no pass has its queue, or it is no pass
+pub alone_end : (views : List Sight) (w : Sight) → ((j : ℕ) (u : Sight) → get_elem? views j ≡ some u → u.kind ≡ Queue → w.kind ≡ Queue → u.queue ≢ w.queue) → Alone views → Alone (views ++ w ∷ [])
 alone_end views w new al i j a b ea eb ka kb q =
     ⊎_elim
     (λ (s : get_elem? views i ≡ some a). ⊎_elim
     (λ (t : get_elem? views j ≡ some b). al i j a b s t ka kb q)
-    (λ (t : (j ≡ length views) × (w ≡ b)). absurd (new i a s ka (q ∙ sym (ap (λ (x : Sight). x.queue) t.1))))
+    (λ (t : (j ≡ length views) × (w ≡ b)). absurd (new i a s ka (ap (λ (x : Sight). x.kind) t.1 ∙ kb) (q ∙ sym (ap (λ (x : Sight). x.queue) t.1))))
     (at_end views w b j eb))
     (λ (s : (i ≡ length views) × (w ≡ a)). ⊎_elim
-    (λ (t : get_elem? views j ≡ some b). absurd (new j b t kb (sym (ap (λ (x : Sight). x.queue) s.1 ∙ q))))
+    (λ (t : get_elem? views j ≡ some b). absurd (new j b t kb (ap (λ (x : Sight). x.kind) s.1 ∙ ka) (sym (ap (λ (x : Sight). x.queue) s.1 ∙ q))))
     (λ (t : (j ≡ length views) × (w ≡ b)). s.0 ∙ sym t.0)
     (at_end views w b j eb))
     (at_end views w a i ea)
 
--- ---- who holds the word
+-- ---- who holds a word
 
-pub out_new : (views : List Sight) (id : ℕ) (v w : Sight) → get_elem? views id ≡ some v → w.journal ≢ None → IsOut (Some id) (set views id w)
-out_new views id v w at has = (w, set_at views id v w at, has)
+pub out_new : (P : Sight → Type 0) (views : List Sight) (id : ℕ) (v w : Sight) → get_elem? views id ≡ some v → P w → IsOut P (Some id) (set views id w)
+out_new P views id v w at p = (w, set_at views id v w at, p)
 
--- a seat that has no journal may change
-pub out_set : (holder : Option ℕ) (views : List Sight) (id : ℕ) (v w : Sight) → get_elem? views id ≡ some v → v.journal ≡ None → IsOut holder views → IsOut holder (set views id w)
-out_set None views id v w at none o = tt
-out_set (Some k) views id v w at none o = (
-  o.0,
-  set_else views id k w (λ (e : k ≡ id). o.2 (ap (λ (x : Sight). x.journal) (at_same views id o.0 v (subst (λ (j : ℕ). get_elem? views j ≡ some o.0) e o.1) at) ∙ none)) ∙ o.1,
-  o.2,
-)
+-- a view that keeps the part may change
+pub out_set : (P : Sight → Type 0) (holder : Option ℕ) (views : List Sight) (id : ℕ) (v w : Sight) → get_elem? views id ≡ some v → (P v → P w) → IsOut P holder views → IsOut P holder (set views id w)
+out_set P None views id v w at keep o = tt
+out_set P (Some k) views id v w at keep o =
+    dite (ℕ_discrete k id)
+    (λ (e : k ≡ id). (
+      w,
+      subst (λ (j : ℕ). get_elem? (set views id w) j ≡ some w) (sym e) (set_at views id v w at),
+      keep (subst P (at_same views id o.0 v (subst (λ (j : ℕ). get_elem? views j ≡ some o.0) e o.1) at) o.2),
+    ))
+    (λ (ne : k ≢ id). (o.0, set_else views id k w ne ∙ o.1, o.2))
 
-pub out_end : (holder : Option ℕ) (views : List Sight) (w : Sight) → IsOut holder views → IsOut holder (views ++ w ∷ [])
-out_end None views w o = tt
-out_end (Some k) views w o = (o.0, at_longer views (w ∷ []) k o.0 o.1, o.2)
+pub out_end : (P : Sight → Type 0) (holder : Option ℕ) (views : List Sight) (w : Sight) → IsOut P holder views → IsOut P holder (views ++ w ∷ [])
+out_end P None views w o = tt
+out_end P (Some k) views w o = (o.0, at_longer views (w ∷ []) k o.0 o.1, o.2)
 
 -- the seat after the last holds nothing
-pub out_within : (holder : Option ℕ) (views : List Sight) → IsOut holder views → holder ≢ Some (length views)
-out_within None views o e = absurd (cc e)
-out_within (Some k) views o e = let is : k ≡ length views = cc e in let near = at_within views k o.0 o.1 in absurd (omega arith)
+pub out_within : (P : Sight → Type 0) (holder : Option ℕ) (views : List Sight) → IsOut P holder views → holder ≢ Some (length views)
+out_within P None views o e = absurd (cc e)
+out_within P (Some k) views o e = let is : k ≡ length views = cc e in let near = at_within views k o.0 o.1 in absurd (omega arith)

@@ -1,4 +1,5 @@
-pub mod Stocks
+pub mod Parts
+pub mod Serving
 pub mod Rules
 pub mod Sights
 pub mod Plays

@@ -1,24 +1,30 @@
 -- What a desk and its passes are to their callers.
-use Rattle.std.specs.Prelude.{◌≡◌, ◌≢◌, ℕ, ◌+◌, ◌^◌, ◌≤◌, ◌<◌, List, [], ◌∷◌, length, map, slice_index_or, Bool, true, false, Option, Some, None}
+use Rattle.std.specs.Prelude.{◌≡◌, ◌≢◌, ℕ, suc, ◌+◌, ◌^◌, ◌≤◌, ◌<◌, List, [], ◌∷◌, length, map, slice_index_or, vec_capacity, Bool, true, false, Option, Some, None, ◌⊎◌}
+use Rattle.std.specs.Global.{Vec}
 use mathlib.Core.Option.{some}
 use mathlib.Core.List.{IsPrefix}
 use lib.ListN.{get_elem?}
 use Rattle.atomic_table.specs.Seated.{TableId}
 use Rattle.zns_types.specs.declared.fields.GeometryFields.{GeometryFields}
+use Rattle.zone_cell.specs.Cells.{Cell}
 use Rattle.zone_model.specs.declared.act.Act.{Act}
 use Rattle.zone_model.specs.Kept.{KeptActs}
 use Rattle.zone_model.specs.Sessions.{acts_of}
+use Rattle.zone_model.specs.Zones.{zones}
+use Rattle.drive_book.specs.declared.book.Book.{Book}
 use Rattle.drive_book.specs.declared.posted.Posted.{Posted}
 use Rattle.solo_drive.specs.declared.applied.Applied.{Applied}
 use Rattle.solo_drive.specs.declared.applied.Applied.TheVariants as applied
-use Rattle.zone_desk.specs.Stocks.{Kept, stock_at, IsAnswered}
+use Rattle.zone_desk.specs.Parts.{zone_at, AreAt, wants_room, ledger_at, IsAnswered}
 use Rattle.zone_desk.specs.Rules.{Stands}
-use Rattle.zone_desk.specs.Sights.{with_journal, committed, joined}
+use Rattle.zone_desk.specs.Sights.{in_order, zones_held, with_cells, with_journal, log_of, committed, joined}
 use Rattle.zone_desk.specs.Plays.{Mine, IsFresh}
 use Rattle.zone_desk.specs.declared.passes.PassErr.{PassErr}
 use Rattle.zone_desk.specs.declared.passes.PassErr.TheVariants as pass_err
 use Rattle.zone_desk.specs.declared.plan.Plan.{Plan}
-use Rattle.zone_desk.specs.declared.sight.Kind.TheVariants.{Main, Queue}
+use Rattle.zone_desk.specs.declared.slot.Slot.{Slot}
+use Rattle.zone_desk.specs.declared.slot.Slot.TheVariants.{Away, Zone}
+use Rattle.zone_desk.specs.declared.sight.Kind.TheVariants.{Main, Queue, Note}
 use Rattle.zone_desk.specs.declared.sight.Standing.{Standing}
 use Rattle.zone_desk.specs.declared.sight.Standing.TheVariants.{Free, Live, Joined}
 use Rattle.zone_desk.specs.declared.sight.Sight.{Sight}
@@ -41,48 +47,109 @@ pass_of table v = record { desk = record { table = table; geometry = v.geometry 
 abbrev pub knowing : Pass → Sight → Pass
 knowing p v = record { desk = p.desk; sight = v }
 
--- ---- taking the word, and serving an act
+-- ---- taking words, and serving an act
 
--- The pass has the journal, and was told that it is fresh. All else stays.
-abbrev pub HasTaken : Pass → Pass → Type 0
-HasTaken p p' = (j : KeptActs) × (p' ≡ knowing p (with_journal p.sight j)) × IsFresh p.sight j
+-- the word is above that of the zone that was taken last
+abbrev pub IsAbove : ℕ → List Cell → Type 0
+IsAbove word [] = Unit {0}
+IsAbove word (c ∷ cs) = c.zone + 2 < word
+
+-- The word is that of a zone above those that the pass has, or the book's, which it doesn't hold yet.
+pub record MayTake (g : GeometryFields) (v : Sight) (word : ℕ) : Type 0 where
+  pub before_book : v.journal ≡ None
+  pub within : (1 ≤ word) × (word < g.zones + 2)
+  pub rising : word ≢ 1 → IsAbove word v.cells
+
+-- The pass has the zone's cell. All else stays.
+abbrev pub HasTakenZone : ℕ → Pass → Pass → Type 0
+HasTakenZone zone p p' = (c : Cell) × (c.zone ≡ zone) × (p' ≡ knowing p (with_cells p.sight (c ∷ p.sight.cells)))
+
+-- The pass has the book, and was told that it is fresh. All else stays.
+abbrev pub HasTakenBook : Pass → Pass → Type 0
+HasTakenBook p p' = (j : KeptActs) × (p' ≡ knowing p (with_journal p.sight j)) × IsFresh p.desk.geometry p.sight j
+
+-- the pass holds the word, and has its part
+pub record HasTaken (word : ℕ) (p p' : Pass) : Type 0 where
+  pub book : word ≡ 1 → HasTakenBook p p'
+  pub zone : (z : ℕ) → word ≡ z + 2 → HasTakenZone z p p'
 
 -- One commit added the act to the journal that the pass has, and it was answered as the definitions say of it there.
+-- The pass has all zones, or no other has to give way.
 pub record IsCommitted (p p' : Pass) (a : Act) (posted : Posted) (out out' : List ℕ) : Type 0 where
   pub pass : p' ≡ knowing p (committed p.sight a)
   pub answer : (j : KeptActs) → p.sight.journal ≡ Some j → IsAnswered p.desk.geometry j a posted out out'
+  pub wide : (zones_held p.sight ≡ zones p.desk.geometry) ⊎ (wants_room p.desk.geometry (log_of p.sight) a ≡ false)
 
--- All zones are out with the journal, so no other has to give way.
+-- Another zone has to give way, and the pass doesn't have all: nothing changed.
+pub record IsNarrow (p p' : Pass) (a : Act) (payload out out' : List ℕ) : Type 0 where
+  pub pass : p' ≡ p
+  pub bytes : payload ≡ a.payload
+  pub unread : out' ≡ out
+  pub narrow : zones_held p.sight ≢ zones p.desk.geometry
+  pub wants : wants_room p.desk.geometry (log_of p.sight) a ≡ true
+
 abbrev pub HasApplied : Pass → Pass → Act → List ℕ → List ℕ → Applied → Type 0
 HasApplied p p' a out out' (applied.Done posted) = IsCommitted p p' a posted out out'
-HasApplied p p' a out out' (applied.Widen payload) = ⊥
+HasApplied p p' a out out' (applied.Widen payload) = IsNarrow p p' a payload out out'
 
 -- ---- what a desk and its passes keep
 
--- The stock in a pass is that of the journal in its view, and its place is empty. The journal has room for all that
+-- the places that are empty, the last taken first
+abbrev pub away : Cell → ℕ × Slot
+away c = (suc c.zone, Away)
+
+abbrev pub emptied : Option KeptActs → List Cell → List (ℕ × Slot)
+emptied None cells = map away cells
+emptied (Some j) cells = (0, Away) ∷ map away cells
+
+-- The book is that of the journal in the view, and the cells are those after its acts. The journal has room for all that
 -- the pass may add.
-abbrev pub IsCarried : Sight → List (ℕ × Option Kept) → Option Kept → Option KeptActs → Type 0
-IsCarried v places stock None = (stock ≡ None) × (places ≡ [])
-IsCarried v places stock (Some j) = (stock ≡ Some (stock_at v.geometry j)) × (places ≡ (0, None) ∷ []) × (v.spare ≤ j.spare) × (length j.acts + j.spare < 2 ^ 32)
+abbrev pub IsCarried : Sight → Option Book → Option KeptActs → Type 0
+IsCarried v book None = book ≡ None
+IsCarried v book (Some j) = (book ≡ Some (ledger_at v.geometry j)) × (v.spare ≤ j.spare) × (length j.acts + j.spare < 2 ^ 32) × AreAt v.geometry j.acts v.cells
 
-abbrev pub Carries : Option Kept → Mine → Type 0
-Carries stock me = IsCarried me.0 me.1 stock me.0.journal
+-- each was taken after those behind it, which are of lower zones
+abbrev pub AreRising : List Cell → Type 0
+AreRising [] = Unit {0}
+AreRising (c ∷ cs) = (length cs ≤ c.zone) × AreRising cs
 
--- a table of two words and one place, for the drive of these numbers
-pub record DeskStands (table : TableId) (g : GeometryFields) (plan : Plan) : Type 0 where
-  pub words : table.words ≡ 2
-  pub slots : table.slots ≡ 1
+-- each is of a zone whose word the table has
+abbrev pub AreWithin : ℕ → List Cell → Type 0
+AreWithin words [] = Unit {0}
+AreWithin words (c ∷ cs) = (c.zone + 2 < words) × AreWithin words cs
+
+-- what a pass has is what its view says
+pub record Carries (words : ℕ) (book : Option Book) (cells : List Cell) (me : Mine) : Type 0 where
+  pub book_is : IsCarried me.0 book me.0.journal
+  pub cells_are : cells ≡ in_order me.0.cells
+  pub empty : me.1 ≡ emptied me.0.journal me.0.cells
+  pub rising : AreRising me.0.cells
+  pub within : AreWithin words me.0.cells
+
+-- a word and a place for each zone of the drive and for the book, and room for the cells at the end
+pub record DeskStands (table : TableId) (g : GeometryFields) (plan : Plan) (shelf : Vec Cell) : Type 0 where
+  pub words : table.words ≡ g.zones + 2
+  pub slots : table.slots ≡ g.zones + 1
   pub geometry : g ≡ plan.fields
+  pub empty : shelf.items ≡ []
+  pub room : g.zones ≤ vec_capacity shelf
 
 -- what a pass keeps is what its seat knows
-pub record PassStands (number acts room : ℕ) (stock : Option Kept) (me : Mine) : Type 0 where
+pub record PassStands (number acts room : ℕ) (book : Option Book) (cells : Vec Cell) (table : TableId) (me : Mine) : Type 0 where
   pub queue : number ≡ me.0.queue
   pub served : acts ≡ length me.0.own
   pub spare : room ≡ me.0.spare
   pub small : acts + room < 2 ^ 32
   pub kind : me.0.kind ≡ Queue
-  pub carries : Carries stock me
+  pub carries : Carries table.words book cells.items me
+  pub fits : table.words ≤ vec_capacity cells + 2
   pub within : me.0.queue < me.0.geometry.queues
+
+-- what a note keeps is what its seat knows
+pub record NoteStands (me : Mine) : Type 0 where
+  pub kind : me.0.kind ≡ Note
+  pub spare : me.0.spare ≡ 0
+  pub none_out : me.1 ≡ []
 
 -- whether a pass was made
 abbrev pub is_given : Standing → Bool
@@ -117,9 +184,13 @@ IsRefused v queue room pass_err.NoMemory = (is_taken v.standings queue ≡ false
 
 -- ---- closing a desk
 
+-- the seat holds no word
+abbrev pub IsIdle : Sight → Type 0
+IsIdle v = (v.journal ≡ None) × (v.cells ≡ [])
+
 -- each is of this desk, and holds no word
 abbrev pub AllIdle : DeskId → List Pass → Type 0
-AllIdle desk ps = (i : ℕ) (p : Pass) → get_elem? ps i ≡ some p → (p.desk ≡ desk) × (p.sight.journal ≡ None)
+AllIdle desk ps = (i : ℕ) (p : Pass) → get_elem? ps i ≡ some p → (p.desk ≡ desk) × IsIdle p.sight
 
 -- no two are of one queue
 abbrev pub Distinct : List Pass → Type 0
@@ -162,3 +233,13 @@ pub record Ends (v : Sight) (j : KeptActs) : Type 0 where
   pub seen : IsPrefix v.seen j.acts
   pub stands : (queue : ℕ) (x : Standing) → get_elem? v.standings queue ≡ some x → Stands j.acts queue x
   pub beyond : (queue : ℕ) → length v.standings ≤ queue → acts_of queue j.acts ≡ []
+
+-- ---- the places of a desk that was closed
+
+-- the places after the first have the cells of so many zones after these acts
+abbrev pub AreShelved : GeometryFields → List Act → List Slot → ℕ → Type 0
+AreShelved g log parts n = (z : ℕ) → z < n → get_elem? parts (suc z) ≡ some (Zone (zone_at g log z))
+
+-- the places after the first have cells
+abbrev pub HaveCells : List Slot → ℕ → Type 0
+HaveCells parts n = (z : ℕ) → z < n → (c : Cell) × (get_elem? parts (suc z) ≡ some (Zone c))

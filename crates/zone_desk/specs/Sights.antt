@@ -1,12 +1,14 @@
 -- What a seat knows, and what the calls of a desk make of it.
-use Rattle.std.specs.Prelude.{ℕ, ◌+◌, ◌-◌, Bool, true, false, if◌then◌else◌, leb, List, [], ◌∷◌, ◌++◌, length, Option, Some, None, replicate, slice_set}
+use Rattle.std.specs.Prelude.{ℕ, ◌+◌, ◌-◌, Bool, true, false, if◌then◌else◌, leb, List, [], ◌∷◌, ◌++◌, length, map, Option, Some, None, replicate, slice_set}
 use Rattle.zns_types.specs.declared.fields.GeometryFields.{GeometryFields}
+use Rattle.zone_cell.specs.Cells.{Cell}
 use Rattle.zone_model.specs.declared.act.Act.{Act}
 use Rattle.zone_model.specs.Kept.{KeptActs}
-use Rattle.zone_desk.specs.Stocks.{with_act}
+use Rattle.solo_drive.specs.Parts.{zones_in}
+use Rattle.zone_desk.specs.Parts.{zones_at, with_act}
 use Rattle.zone_desk.specs.declared.plan.Plan.{Plan}
 use Rattle.zone_desk.specs.declared.sight.Kind.{Kind}
-use Rattle.zone_desk.specs.declared.sight.Kind.TheVariants.{Main, Queue, Spent}
+use Rattle.zone_desk.specs.declared.sight.Kind.TheVariants.{Main, Queue, Note, Spent}
 use Rattle.zone_desk.specs.declared.sight.Standing.{Standing}
 use Rattle.zone_desk.specs.declared.sight.Standing.TheVariants.{Free, Live, Joined}
 use Rattle.zone_desk.specs.declared.sight.Sight.{Sight}
@@ -20,9 +22,11 @@ new_sight kind g queue seen spare standings = record {
   geometry = g;
   queue = queue;
   seen = seen;
+  heard = [];
   own = [];
   spare = spare;
   journal = None;
+  cells = [];
   found = 0;
   found_last = 0;
   held_when_found = [];
@@ -38,6 +42,9 @@ main_sight g seen left standings = new_sight Main g 0 seen left standings
 
 abbrev pub queue_sight : GeometryFields → ℕ → List Act → ℕ → Sight
 queue_sight g queue seen spare = new_sight Queue g queue seen spare []
+
+abbrev pub note_sight : GeometryFields → List Act → Sight
+note_sight g seen = new_sight Note g 0 seen 0 []
 
 -- the main seat's view of a new desk: no queue has a pass
 abbrev pub first_sight : Plan → Sight
@@ -65,19 +72,47 @@ no_fields = record {
 abbrev pub spent_sight : Sight
 spent_sight = new_sight Spent no_fields 0 [] 0 []
 
+-- ---- the words that a seat holds
+
+-- cells of which the last taken comes first, in the order in which they were taken
+abbrev pub in_order : List Cell → List Cell
+in_order [] = []
+in_order (c ∷ cs) = in_order cs ++ c ∷ []
+
+-- the zones whose cells a seat has, in the order taken
+abbrev pub zones_held : Sight → List ℕ
+zones_held v = zones_in (in_order v.cells)
+
+-- the lock words of zones
+abbrev pub zone_words : List ℕ → List ℕ
+zone_words zs = map (λ z. z + 2) zs
+
+abbrev pub book_words : Option KeptActs → List ℕ
+book_words None = []
+book_words (Some j) = 1 ∷ []
+
+-- those of its zones, and then the book's
+abbrev pub words_of : Sight → List ℕ
+words_of v = zone_words (zones_held v) ++ book_words v.journal
+
 -- ---- what a call makes of a view
 
--- the word was taken, and no commit took place since
+-- one word more was found held: this one
+abbrev pub missed : Sight → ℕ → Sight
+missed v word = record v { found = v.found + 1; found_last = word; held_when_found = words_of v }
+
+-- the same after a take that counts it, or doesn't
+abbrev pub missed_if : Bool → Sight → ℕ → Sight
+missed_if true v word = missed v word
+missed_if false v word = v
+
+-- these cells are out with the seat
+abbrev pub with_cells : Sight → List Cell → Sight
+with_cells v cells = record v { cells = cells }
+
+-- the book was taken with this journal, and no commit took place since
 abbrev pub with_journal : Sight → KeptActs → Sight
 with_journal v j = record v { journal = Some j; uncommitted = true }
-
-abbrev pub words_out : Option KeptActs → List ℕ
-words_out None = []
-words_out (Some j) = 1 ∷ []
-
--- the words that a seat holds
-abbrev pub words_of : Sight → List ℕ
-words_of v = words_out v.journal
 
 abbrev pub acts_out : Option KeptActs → List Act
 acts_out None = []
@@ -91,13 +126,14 @@ abbrev pub journal_after : Option KeptActs → Act → Option KeptActs
 journal_after None a = None
 journal_after (Some j) a = Some (with_act j a)
 
--- The journal gained the act at its end, and all of it was seen.
+-- The journal gained the act at its end, and all of it was seen. The cells are those of the longer journal.
 abbrev pub committed : Sight → Act → Sight
 committed v a = record v {
   seen = log_of v ++ a ∷ [];
   own = v.own ++ a ∷ [];
   spare = v.spare - 1;
   journal = journal_after v.journal a;
+  cells = zones_at v.geometry (log_of v ++ a ∷ []) (zones_in v.cells);
   uncommitted = false;
   held_at_commit = words_of v;
 }
@@ -106,7 +142,7 @@ abbrev pub count : Bool → ℕ
 count true = 1
 count false = 0
 
--- The journal was given back. Where no commit took place, that is counted, and the journal noted.
+-- The book was given back. Where no commit took place, that is counted, and its journal noted.
 abbrev pub gave : Sight → Sight
 gave v = record v {
   journal = None;
@@ -121,16 +157,33 @@ gave_out v (Some j) = gave v
 
 -- all that was out was given back
 abbrev pub given : Sight → Sight
-given v = gave_out v v.journal
+given v = with_cells (gave_out v v.journal) []
+
+abbrev pub others : List Cell → List Cell
+others [] = []
+others (c ∷ cs) = cs
+
+-- the cell that was taken last was given back
+abbrev pub without_last : Sight → Sight
+without_last v = with_cells v (others v.cells)
+
+-- ---- what seats tell each other
+
+abbrev pub longer : List Act → List Act → List Act
+longer xs ys = if leb (length xs) (length ys) then ys else xs
+
+abbrev pub shorter : List Act → List Act → List Act
+shorter xs ys = if leb (length xs) (length ys) then xs else ys
+
+-- a pass that was told of what a note has seen
+abbrev pub told : Sight → Sight → Sight
+told v w = record v { seen = longer v.seen w.seen; heard = shorter v.seen w.seen }
 
 -- ---- what the main seat knows
 
 -- what is left of it when a pass was made
 abbrev pub made : Sight → ℕ → ℕ → Sight
 made v queue room = main_sight v.geometry v.seen (v.spare - room) (slice_set v.standings queue Live)
-
-abbrev pub longer : List Act → List Act → List Act
-longer xs ys = if leb (length xs) (length ys) then ys else xs
 
 -- the same when a pass was joined: its room comes back, and its own acts and what it had seen are kept
 abbrev pub joined : Sight → Sight → Sight

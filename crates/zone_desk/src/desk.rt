@@ -1,19 +1,28 @@
-ghost use Rattle.std.specs.Prelude.{◌≡◌, ◌≢◌, ◌+◌, ◌<◌, ◌≤◌, true, false, length, IfOk, IfErr};
+ghost use Rattle.std.specs.Prelude.{◌≡◌, ◌≢◌, ◌+◌, ◌-◌, ◌<◌, ◌≤◌, true, false, length, IfOk, IfErr};
 ghost use Rattle.std.specs.Prelude.{None};
 ghost use Rattle.solo_drive.specs.Drives.{HasLengths, act_of};
-ghost use Rattle.zone_desk.specs.Sights.{first_sight, given, made, queue_sight};
-ghost use Rattle.zone_desk.specs.Passes.{knowing, is_taken, IsRefused, HasTaken, HasApplied};
+ghost use Rattle.solo_drive.specs.Parts.{AreLent};
+ghost use Rattle.zone_desk.specs.Sights.{first_sight, queue_sight, note_sight, made, given};
+ghost use Rattle.zone_desk.specs.Sights.{zones_held, missed, missed_if, told};
+ghost use mathlib.Core.List.{IsPrefix};
+ghost use Rattle.zone_desk.specs.Passes.{knowing, is_taken, IsRefused, IsAbove, MayTake, HasTaken};
+ghost use Rattle.zone_desk.specs.Passes.{HasTakenBook, HasTakenZone, HasApplied};
 ghost use Rattle.zone_desk.specs.Passes.{AllIdle, Exactly, HaveKnown, NoOthers, spare_of};
 
 use crate::closing::{absorb_all, finish};
-use crate::passes::{MainPass, PassErr, QueuePass};
+use crate::freeing::free_zones;
+use crate::opening::places;
+use crate::passes::{MainPass, Note, PassErr, QueuePass};
 use crate::plan::Plan;
-use crate::plays::{Law, Release, Take};
+use crate::plays::{
+    Compare, Counting, FreeBook, Law, Remember, TakeBook, TakeZone, Tell, Trying, Waiting,
+};
+use crate::serving::serve_on;
 use crate::sight::Sight;
-use crate::steps::{LOCK, STOCK, commit, seat_for};
-use crate::stock::Stock;
+use crate::slot::Slot;
+use crate::steps::{BOOK, HISTORY, LEDGER, commit, seat_for};
 use atomic_table::Table;
-use solo_drive::{Applied, Solo};
+use solo_drive::{Applied, Parts, Solo};
 use sqe_codec::Sqe;
 use std::alloc::Global;
 use std::marker::{Brand, Model};
@@ -21,12 +30,15 @@ use std::snapshot::Snapshot;
 use std::sync::Wait;
 use zns_io::{Bytes, NoMemory};
 use zns_types::Geometry;
+use zone_cell::ZoneCell;
 
-/// A drive that several queues share. Its one lock word is word 1.
+/// A drive that several queues share. Word 1 is the book's lock word, and word 2 + z zone z's.
 #[derive(Drop)]
 pub struct Desk {
     geometry: Geometry,
-    table: Table<Option<Stock>, Sight, Plan, Law, Global>,
+    table: Table<Slot, Sight, Plan, Law, Global>,
+    // Room for the cells at the end.
+    shelf: Vec<ZoneCell>,
 }
 
 impl Model for Desk {
@@ -37,7 +49,7 @@ impl Model for Desk {
     ghost view = { λ d. record { table = d.table.shared.table_id; geometry = d.geometry.fields } };
 
     ghost invariant = { λ d. DeskStands d.table.shared.table_id d.geometry.fields
-        d.table.shared.key };
+        d.table.shared.key d.shelf };
 }
 
 impl Desk {
@@ -50,16 +62,27 @@ impl Desk {
         ensures sight { IfOk result
             (λ d. d.1.sight ≡ first_sight record { fields = g.fields; room = room }) }
     {
+        let zones = g.fields.zones as usize;
+        let shelf = Vec::with_capacity(alloc, zones)?;
         let given = Vec::from_elem(alloc, false, g.fields.queues as usize)?;
-        let mut slots = Vec::with_capacity(alloc, 1)?;
-        slots.push_reserved(Some(Stock::new(alloc, g, room)?));
+        let words = Vec::from_elem(alloc, 0u64, zones + 2)?;
+        let Parts {
+            cells,
+            book,
+            geometry: _,
+        } = Solo::new(alloc, g, room)?.into_parts();
+        let slots = places(alloc, book, cells)?;
         let plan = Plan {
             fields: g.fields,
             room,
         };
-        match Table::new(alloc, &[0, 0], slots, &plan) {
+        match Table::new(alloc, words.as_slice(), slots, &plan) {
             Ok((table, seat)) => Ok((
-                Desk { geometry: g, table },
+                Desk {
+                    geometry: g,
+                    table,
+                    shelf,
+                },
                 MainPass {
                     left: room,
                     given,
@@ -85,7 +108,7 @@ impl Desk {
     /// where that is less than `room`, else `NoMemory`. Then `main` is as before.
     pub fn pass(
         &self,
-        _alloc: Global,
+        alloc: Global,
         main: &mut MainPass,
         queue: u16,
         room: u32,
@@ -102,13 +125,15 @@ impl Desk {
         ensures refused { IfErr result (λ e. IsRefused main.old.sight queue room e) }
         ensures unchanged { IfErr result (λ e. main.new ≡ main.old) }
     {
-        // It takes no memory, since one word stands for all zones: a pass has no list of them.
         if main.given[queue as usize] {
             return Err(PassErr::QueueTaken(queue));
         }
         if room > main.left {
             return Err(PassErr::RoomShort(main.left));
         }
+        let Ok(cells) = Vec::with_capacity(alloc, self.geometry.fields.zones as usize) else {
+            return Err(PassErr::NoMemory);
+        };
         let seat = seat_for::<Brand>(&self.table.shared, &mut main.seat, queue, room);
         main.given[queue as usize] = true;
         main.left -= room;
@@ -116,21 +141,21 @@ impl Desk {
             queue,
             served: 0,
             spare: room,
-            stock: None,
+            book: None,
+            cells,
             seat,
         })
     }
 
-    /// Waits until the lock word is free. If the call returns, the pass holds it, and has the
-    /// journal.
+    /// Waits until the lock word is free. If the call returns, the pass holds it, and has its part:
+    /// the book, or the zone's cell. The words of zones are taken rising, and then the book's.
     pub fn take_word<R: Wait>(&self, rt: &R, pass: &mut QueuePass, word: u32)
         requires desk { pass.old.desk ≡ self.now }
-        requires word { word ≡ 1 }
-        requires free { pass.old.sight.journal ≡ None }
-        ensures { HasTaken pass.old pass.new }
+        requires next { MayTake self.now.geometry pass.old.sight word }
+        ensures { HasTaken word pass.old pass.new }
     {
         for _ in rt.forever() {
-            if self.step_word(pass) {
+            if self.step_word::<Waiting>(pass, word) {
                 return;
             }
             self.table.shared.park(rt, word as usize, 1);
@@ -138,23 +163,75 @@ impl Desk {
         unreachable!()
     }
 
-    // One step: where the word is free, the pass has it, and the stock.
-    fn step_word(&self, pass: &mut QueuePass) -> bool
+    /// Takes the lock word as `take_word` does, and waits for nobody. It answers false where its
+    /// one step finds the word held, which is counted.
+    pub fn try_word(&self, pass: &mut QueuePass, word: u32) -> bool
+        requires desk { pass.old.desk ≡ self.now }
+        requires next { MayTake self.now.geometry pass.old.sight word }
+        ensures taken { result ≡ true → HasTaken word pass.old pass.new }
+        ensures held { result ≡ false
+            → pass.new ≡ knowing pass.old (missed pass.old.sight word) }
+    {
+        self.step_word::<Trying>(pass, word)
+    }
+
+    // One step: where the word is free, the pass has it, and its part.
+    fn step_word<C: Counting>(&self, pass: &mut QueuePass, word: u32) -> bool
+        requires desk { pass.old.desk ≡ self.now }
+        requires next { MayTake self.now.geometry pass.old.sight word }
+        ensures taken { result ≡ true → HasTaken word pass.old pass.new }
+        ensures held { result ≡ false
+            → pass.new ≡ knowing pass.old (missed_if C.counts pass.old.sight word) }
+    {
+        if word == 1 {
+            return self.step_book::<C>(pass);
+        }
+        self.step_zone::<C>(pass, word - 2)
+    }
+
+    fn step_book<C: Counting>(&self, pass: &mut QueuePass) -> bool
         requires desk { pass.old.desk ≡ self.now }
         requires free { pass.old.sight.journal ≡ None }
-        ensures taken { result ≡ true → HasTaken pass.old pass.new }
-        ensures held { result ≡ false → pass.new ≡ pass.old }
+        ensures taken { result ≡ true → HasTakenBook pass.old pass.new }
+        ensures held { result ≡ false
+            → pass.new ≡ knowing pass.old (missed_if C.counts pass.old.sight 1) }
     {
         let board = &self.table.shared;
-        if board.compare_exchange::<Take>(&mut pass.seat, LOCK, 0, 1) != 0 {
+        if board.compare_exchange::<TakeBook<C>>(&mut pass.seat, BOOK, 0, 1) != 0 {
             return false;
         }
-        pass.stock = board.exchange(&mut pass.seat, STOCK, None);
+        let Slot::Ledger(book) = board.exchange(&mut pass.seat, LEDGER, Slot::Away) else {
+            unreachable!()
+        };
+        pass.book = Some(book);
         true
     }
 
-    /// Serves an act of the pass's queue, by one commit. The pass then has seen the journal with
-    /// this act at its end. What the act reads stands in front of `out`; the rest of `out` stays.
+    fn step_zone<C: Counting>(&self, pass: &mut QueuePass, zone: u32) -> bool
+        requires desk { pass.old.desk ≡ self.now }
+        requires free { pass.old.sight.journal ≡ None }
+        requires zone { zone < self.now.geometry.zones }
+        requires rising { IsAbove (zone + 2) pass.old.sight.cells }
+        ensures taken { result ≡ true → HasTakenZone zone pass.old pass.new }
+        ensures held { result ≡ false
+            → pass.new ≡ knowing pass.old (missed_if C.counts pass.old.sight (zone + 2)) }
+    {
+        let board = &self.table.shared;
+        let place = zone as usize + 1;
+        if board.compare_exchange::<TakeZone<C>>(&mut pass.seat, place + 1, 0, 1) != 0 {
+            return false;
+        }
+        let Slot::Zone(cell) = board.exchange(&mut pass.seat, place, Slot::Away) else {
+            unreachable!()
+        };
+        pass.cells.push_reserved(cell);
+        true
+    }
+
+    /// Serves an act of the pass's queue on the parts that the pass has, by one commit. The pass
+    /// then has seen the journal with this act at its end. What the act reads stands in front of
+    /// `out`; the rest of `out` stays. Where another zone has to give way, and the pass doesn't
+    /// have all zones, nothing changes.
     pub fn apply_act(
         &self,
         pass: &mut QueuePass,
@@ -164,6 +241,8 @@ impl Desk {
     ) -> Applied
         requires desk { pass.old.desk ≡ self.now }
         requires journal { pass.old.sight.journal ≢ None }
+        requires zones { AreLent self.now.geometry (act_of pass.old.sight.queue sqe payload)
+            (zones_held pass.old.sight) }
         requires spare { 0 < pass.old.sight.spare }
         requires lengths { HasLengths self.now.geometry
             (act_of pass.old.sight.queue sqe payload) (length out.old) }
@@ -171,29 +250,70 @@ impl Desk {
             out.old out.new result }
     {
         let bytes = Snapshot::of(&payload);
-        let Some(stock) = &mut pass.stock else {
+        let queue = pass.queue;
+        let Some(book) = &mut pass.book else {
             unreachable!()
         };
-        let posted = stock.serve(&self.geometry, pass.queue, sqe, payload, out);
-        commit::<Brand>(&self.table.shared, &mut pass.seat, pass.queue, sqe, bytes);
-        pass.served += 1;
-        pass.spare -= 1;
-        Applied::Done(posted)
+        match serve_on(
+            &mut pass.cells,
+            book,
+            &self.geometry,
+            queue,
+            sqe,
+            payload,
+            out,
+        ) {
+            Applied::Widen { payload } => Applied::Widen { payload },
+            Applied::Done(posted) => {
+                commit::<Brand>(&self.table.shared, &mut pass.seat, queue, sqe, bytes);
+                pass.served += 1;
+                pass.spare -= 1;
+                Applied::Done(posted)
+            }
+        }
     }
 
-    /// Gives the stock back, and frees the word, where the pass has them.
+    /// Gives all parts back, and frees the words that the pass holds.
     pub fn put_back(&self, pass: &mut QueuePass)
         requires desk { pass.old.desk ≡ self.now }
         ensures { pass.new ≡ knowing pass.old (given pass.old.sight) }
     {
-        if let Some(stock) = pass.stock.take() {
-            let board = &self.table.shared;
-            let None = board.exchange(&mut pass.seat, STOCK, Some(stock)) else {
+        let board = &self.table.shared;
+        if let Some(book) = pass.book.take() {
+            let Slot::Away = board.exchange(&mut pass.seat, LEDGER, Slot::Ledger(book)) else {
                 unreachable!()
             };
-            board.store::<Release>(&mut pass.seat, LOCK, 0);
-            board.wake_one(LOCK);
+            board.store::<FreeBook>(&mut pass.seat, BOOK, 0);
+            board.wake_one(BOOK);
         }
+        free_zones(board, &mut pass.seat, &mut pass.cells);
+    }
+
+    /// A note of what the pass has seen.
+    pub fn note(&self, pass: &mut QueuePass) -> Note
+        requires { pass.old.desk ≡ self.now }
+        ensures pass { pass.new ≡ pass.old }
+        ensures desk { result.desk ≡ self.now }
+        ensures sight { result.sight ≡ note_sight self.now.geometry pass.old.sight.seen }
+    {
+        Note {
+            seat: self.table.shared.split_seat::<Remember>(&mut pass.seat),
+        }
+    }
+
+    /// Tells a pass what a note has seen. The pass then has seen the longer of the two lists, of
+    /// which the other is a beginning.
+    pub fn learn(&self, pass: &mut QueuePass, note: Note)
+        requires desk { pass.old.desk ≡ self.now }
+        requires note { note.desk ≡ self.now }
+        ensures pass { pass.new ≡ knowing pass.old (told pass.old.sight note.sight) }
+        ensures own { IsPrefix pass.old.sight.seen pass.new.sight.seen }
+        ensures others { IsPrefix note.sight.seen pass.new.sight.seen }
+    {
+        let Note { seat } = note;
+        let board = &self.table.shared;
+        board.join_seat::<Tell>(&mut pass.seat, seat);
+        board.load::<Compare>(&mut pass.seat, HISTORY);
     }
 
     /// The drive that the passes leave. They are all that were made.
@@ -206,7 +326,11 @@ impl Desk {
         ensures known { HaveKnown result.acts passes.items }
         ensures others { NoOthers result.acts main.sight.standings }
     {
-        let Desk { geometry, table } = self;
+        let Desk {
+            geometry,
+            table,
+            shelf,
+        } = self;
         let MainPass {
             left: _,
             given,
@@ -214,6 +338,6 @@ impl Desk {
         } = main;
         drop(given);
         absorb_all(&table.shared, &mut seat, passes);
-        finish(table, seat).into_solo(geometry)
+        Solo::of_parts(finish(table, seat, geometry, shelf))
     }
 }

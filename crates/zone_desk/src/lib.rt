@@ -1,20 +1,23 @@
-//! A drive for several queues on threads: one lock word, a history that only grows, and a pass for
-//! each queue.
+//! A drive for several queues on threads: a lock word for each zone and one for the book, a history
+//! that only grows, and a pass for each queue.
 #![tactic(auto)]
 
 mod closing;
 mod desk;
+mod freeing;
+mod opening;
 mod passes;
 mod plan;
 mod plays;
+mod serving;
 mod sight;
+mod slot;
 mod steps;
-mod stock;
 #[cfg(test)]
 mod tests;
 mod threads;
 
 pub use desk::Desk;
-pub use passes::{MainPass, PassErr, QueuePass};
+pub use passes::{MainPass, Note, PassErr, QueuePass};
 pub use sight::{Kind, Sight, Standing};
 pub use threads::threads_may_share;

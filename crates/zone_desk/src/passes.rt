@@ -1,9 +1,11 @@
 ghost use Rattle.std.specs.Prelude.{◌≡◌, length};
 
 use crate::sight::Sight;
-use crate::stock::Stock;
+use crate::slot::Slot;
 use atomic_table::Seat;
+use solo_drive::Book;
 use std::marker::Model;
+use zone_cell::ZoneCell;
 
 /// Why no pass was made.
 #[derive(Clone, Copy, Debug, PartialEq, Eq)]
@@ -24,7 +26,7 @@ pub struct MainPass {
     pub(crate) left: u32,
     // Whether a pass was made, for each queue.
     pub(crate) given: Vec<bool>,
-    pub(crate) seat: Seat<Option<Stock>, Sight>,
+    pub(crate) seat: Seat<Slot, Sight>,
 }
 
 impl Model for MainPass {
@@ -43,8 +45,10 @@ pub struct QueuePass {
     pub(crate) queue: u16,
     pub(crate) served: u32,
     pub(crate) spare: u32,
-    pub(crate) stock: Option<Stock>,
-    pub(crate) seat: Seat<Option<Stock>, Sight>,
+    pub(crate) book: Option<Book>,
+    // In the order taken, with room for all zones.
+    pub(crate) cells: Vec<ZoneCell>,
+    pub(crate) seat: Seat<Slot, Sight>,
 }
 
 impl Model for QueuePass {
@@ -54,7 +58,24 @@ impl Model for QueuePass {
 
     ghost view = { λ p. pass_of p.seat.table_id p.seat.me.0 };
 
-    ghost invariant = { λ p. PassStands p.queue p.served p.spare p.stock p.seat.me };
+    ghost invariant = { λ p. PassStands p.queue p.served p.spare p.book p.cells
+        p.seat.table_id p.seat.me };
+}
+
+/// What a pass had seen.
+#[derive(Drop)]
+pub struct Note {
+    pub(crate) seat: Seat<Slot, Sight>,
+}
+
+impl Model for Note {
+    ghost use Rattle.zone_desk.specs.Passes.{Pass, pass_of, NoteStands};
+
+    ghost Value = { Pass };
+
+    ghost view = { λ n. pass_of n.seat.table_id n.seat.me.0 };
+
+    ghost invariant = { λ n. NoteStands n.seat.me };
 }
 
 impl QueuePass {

@@ -1,14 +1,14 @@
 //! The rule of a desk, and what each of its steps tells. These types are for contracts alone.
 use crate::plan::Plan;
 use crate::sight::Sight;
-use crate::stock::Stock;
+use crate::slot::Slot;
 use atomic_table::{Join, Play, Split, TableRule};
 use std::marker::{Brand, PhantomData};
 
 /// The rule.
 pub struct Law;
 
-impl TableRule<Option<Stock>, Sight, Plan> for Law {
+impl TableRule<Slot, Sight, Plan> for Law {
     ghost use Rattle.zone_desk.specs.Rules.{Rule};
     ghost use Rattle.zone_desk.specs.Sights.{first_sight};
 
@@ -17,13 +17,51 @@ impl TableRule<Option<Stock>, Sight, Plan> for Law {
     ghost first = { first_sight };
 }
 
-/// Takes the lock word with the stock, or is to be tried again.
-pub struct Take;
+/// Whether a take that finds its word held counts that.
+pub trait Counting {
+    ghost use Rattle.std.specs.Prelude.{Bool};
 
-impl Play<Option<Stock>, Sight> for Take {
-    ghost use Rattle.zone_desk.specs.Plays.{Takes};
+    ghost counts: { Bool };
+}
 
-    ghost then = { Takes };
+/// Waits, and counts nothing.
+pub struct Waiting;
+
+impl Counting for Waiting {
+    ghost use Rattle.std.specs.Prelude.{false};
+
+    ghost counts = { false };
+}
+
+/// Waits for nobody, and counts.
+pub struct Trying;
+
+impl Counting for Trying {
+    ghost use Rattle.std.specs.Prelude.{true};
+
+    ghost counts = { true };
+}
+
+/// Takes the book's word with the book, or finds it held.
+pub struct TakeBook<C> {
+    of: PhantomData<C>,
+}
+
+impl<C: Counting> Play<Slot, Sight> for TakeBook<C> {
+    ghost use Rattle.zone_desk.specs.Plays.{TakesBook};
+
+    ghost then = { TakesBook C.counts };
+}
+
+/// Takes a zone's word with its cell, or finds it held.
+pub struct TakeZone<C> {
+    of: PhantomData<C>,
+}
+
+impl<C: Counting> Play<Slot, Sight> for TakeZone<C> {
+    ghost use Rattle.zone_desk.specs.Plays.{TakesZone};
+
+    ghost then = { TakesZone C.counts };
 }
 
 /// Which act a commit adds. Each commit picks it.
@@ -44,19 +82,28 @@ pub struct Commit<D> {
     of: PhantomData<D>,
 }
 
-impl<D: Adding> Play<Option<Stock>, Sight> for Commit<D> {
+impl<D: Adding> Play<Slot, Sight> for Commit<D> {
     ghost use Rattle.zone_desk.specs.Plays.{Commits};
 
     ghost then = { Commits D.act };
 }
 
-/// Gives the stock back, and frees the word.
-pub struct Release;
+/// Gives the book back, and frees its word.
+pub struct FreeBook;
 
-impl Play<Option<Stock>, Sight> for Release {
-    ghost use Rattle.zone_desk.specs.Plays.{Releases};
+impl Play<Slot, Sight> for FreeBook {
+    ghost use Rattle.zone_desk.specs.Plays.{FreesBook};
 
-    ghost then = { Releases };
+    ghost then = { FreesBook };
+}
+
+/// Gives the cell back that was taken last, and frees its word.
+pub struct FreeZone;
+
+impl Play<Slot, Sight> for FreeZone {
+    ghost use Rattle.zone_desk.specs.Plays.{FreesZone};
+
+    ghost then = { FreesZone };
 }
 
 /// Which pass is made: its queue, and its room. Each call picks them.
@@ -96,4 +143,35 @@ impl Join<Sight> for Absorb {
     ghost both = { joined };
 
     ghost spent = { spent_sight };
+}
+
+/// Makes a note of what a pass has seen.
+pub struct Remember;
+
+impl Split<Sight> for Remember {
+    ghost use Rattle.zone_desk.specs.Sights.{note_sight};
+
+    ghost left = { λ v. v };
+
+    ghost right = { λ v. note_sight v.geometry v.seen };
+}
+
+/// Tells a pass what a note has seen.
+pub struct Tell;
+
+impl Join<Sight> for Tell {
+    ghost use Rattle.zone_desk.specs.Sights.{told, spent_sight};
+
+    ghost both = { told };
+
+    ghost spent = { spent_sight };
+}
+
+/// Compares what was seen with what was told.
+pub struct Compare;
+
+impl Play<Slot, Sight> for Compare {
+    ghost use Rattle.zone_desk.specs.Plays.{Compares};
+
+    ghost then = { Compares };
 }

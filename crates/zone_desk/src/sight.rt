@@ -1,6 +1,7 @@
 //! What a seat of the desk knows, which contracts alone read.
 use std::collections::LinkedList;
 use zns_types::GeometryFields;
+use zone_cell::ZoneCell;
 use zone_model::{Act, Journal};
 
 /// Which kind of seat it is.
@@ -10,6 +11,9 @@ pub enum Kind {
 
     /// A queue's pass.
     Queue,
+
+    /// What a pass had seen.
+    Note,
 
     /// One that was joined.
     Spent,
@@ -39,24 +43,31 @@ pub struct Sight {
     /// The acts that it has seen.
     pub seen: LinkedList<Act>,
 
+    /// A beginning of them, which it was told of last.
+    pub heard: LinkedList<Act>,
+
     /// The acts of its queue.
     pub own: LinkedList<Act>,
 
     /// For how many more acts it has room.
     pub spare: u32,
 
-    /// The journal, while it is out with this seat.
+    /// The journal, while the book is out with this seat.
     pub journal: Option<Journal>,
+
+    /// The cells that are out with it, the last taken first.
+    pub cells: LinkedList<ZoneCell>,
 
     /// How many lock words it found held, the last of them, and the words that it held then.
     pub found: u64,
     pub found_last: u64,
     pub held_when_found: LinkedList<u64>,
 
-    /// Whether no commit took place since it took the journal.
+    /// Whether no commit took place since it took the book.
     pub uncommitted: bool,
 
-    /// How often it gave the journal back without a commit, and the acts in it the last such time.
+    /// How often it gave the book back without a commit, and the acts in its journal the last such
+    /// time.
     pub given_back: u64,
     pub given_back_log: LinkedList<Act>,
 

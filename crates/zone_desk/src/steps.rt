@@ -1,7 +1,8 @@
 //! The steps that are told what they add.
-ghost use Rattle.std.specs.Prelude.{◌≡◌, ◌≢◌, ◌<◌, ◌≤◌, [], None};
+ghost use Rattle.std.specs.Prelude.{◌≡◌, ◌≢◌, ◌+◌, ◌<◌, ◌≤◌, [], None};
 ghost use Rattle.solo_drive.specs.Drives.{act_of};
-ghost use Rattle.zone_desk.specs.Sights.{committed, made, queue_sight};
+ghost use Rattle.zone_desk.specs.Parts.{Covers};
+ghost use Rattle.zone_desk.specs.Sights.{committed, log_of, made, queue_sight};
 ghost use Rattle.zone_desk.specs.declared.sight.Kind.TheVariants.{Main, Queue};
 ghost use Rattle.zone_desk.specs.declared.sight.Standing.TheVariants.{Free};
 ghost use mathlib.Core.Option.{some};
@@ -10,7 +11,7 @@ ghost use lib.ListN.{get_elem?};
 use crate::plan::Plan;
 use crate::plays::{Adding, Commit, Law, Make, Seating};
 use crate::sight::Sight;
-use crate::stock::Stock;
+use crate::slot::Slot;
 use atomic_table::{Seat, Shared};
 use sqe_codec::Sqe;
 use std::snapshot::Snapshot;
@@ -19,15 +20,15 @@ use zns_io::Bytes;
 /// Counts the acts in the journal.
 pub(crate) const HISTORY: usize = 0;
 
-/// Is 1 while a seat has the stock.
-pub(crate) const LOCK: usize = 1;
+/// Is 1 while a seat has the book. The words of the zones come after it.
+pub(crate) const BOOK: usize = 1;
 
-/// Where the stock lies.
-pub(crate) const STOCK: usize = 0;
+/// Where the book lies. The places of the zones come after it.
+pub(crate) const LEDGER: usize = 0;
 
-pub(crate) type Board = Shared<Option<Stock>, Sight, Plan, Law>;
+pub(crate) type Board = Shared<Slot, Sight, Plan, Law>;
 
-pub(crate) type Place = Seat<Option<Stock>, Sight>;
+pub(crate) type Place = Seat<Slot, Sight>;
 
 /// The seat of a new pass.
 pub(crate) fn seat_for<D: Seating>(board: &Board, seat: &mut Place, queue: u16, room: u32) -> Place
@@ -55,12 +56,16 @@ pub(crate) fn commit<D: Adding>(
     payload: Snapshot<Bytes>,
 )
     requires table { seat.old.table_id ≡ board.now.table_id }
+    requires geometry { seat.old.me.0.geometry ≡ board.now.key.fields }
     requires words { 0 < board.now.table_id.words }
+    requires slots { board.now.table_id.slots ≡ seat.old.me.0.geometry.zones + 1 }
     requires picks { D.act ≡ act_of queue sqe payload.value }
     requires kind { seat.old.me.0.kind ≡ Queue }
     requires queue { queue ≡ seat.old.me.0.queue }
     requires spare { 0 < seat.old.me.0.spare }
     requires journal { seat.old.me.0.journal ≢ None }
+    requires zones { Covers seat.old.me.0.geometry (log_of seat.old.me.0)
+        (act_of queue sqe payload.value) seat.old.me.0.cells }
     ensures table { seat.new.table_id ≡ seat.old.table_id }
     ensures seat { seat.new.me
         ≡ (committed seat.old.me.0 (act_of queue sqe payload.value), seat.old.me.1) }

@@ -1,13 +1,10 @@
-ghost use Rattle.std.specs.Prelude.{◌≡◌, ◌<◌, None};
+ghost use Rattle.std.specs.Prelude.{◌≡◌};
+ghost use Rattle.zone_desk.specs.Passes.{IsIdle};
 
 use super::*;
-use solo_drive::Applied;
-use sqe_codec::{Cmd, reply_len, transfer_len, write};
-use std::alloc::Global;
 use std::sync::Wait;
 use std::test::Fail;
-use zns_io::Bytes;
-use zns_types::{Code, Geometry, GeometryFields};
+use zns_types::{Geometry, GeometryFields};
 
 // Four zones of 48 blocks of 512 bytes, of which three may be active and two opened.
 const SMALL: GeometryFields = GeometryFields {
@@ -27,38 +24,16 @@ const SMALL: GeometryFields = GeometryFields {
     depth: 64,
 };
 
-// Writes the first block, and has the status.
-fn write_a_block<R: Wait>(
-    rt: &R,
-    alloc: Global,
-    desk: &Desk,
-    pass: &mut QueuePass,
-) -> Result<Option<Code>, Fail>
+// Takes the book's word, and gives the book back.
+fn take_and_give<R: Wait>(rt: &R, desk: &Desk, pass: &mut QueuePass)
     requires desk { pass.old.desk ≡ desk.now }
-    requires free { pass.old.sight.journal ≡ None }
-    requires spare { 0 < pass.old.sight.spare }
+    requires idle { IsIdle pass.old.sight }
     ensures desk { pass.new.desk ≡ pass.old.desk }
-    ensures free { pass.new.sight.journal ≡ None }
+    ensures idle { IsIdle pass.new.sight }
     ensures queue { pass.new.sight.queue ≡ pass.old.sight.queue }
 {
-    let sqe = write(
-        &Cmd::Write {
-            nsid: 1,
-            slba: 0,
-            blocks: 1,
-        },
-        7,
-    );
-    let (g, admin) = (desk.geometry(), pass.queue() == 0);
-    let payload = Bytes::filled(alloc, transfer_len(g, admin, &sqe), 0x11)?;
-    let mut out = vec![in alloc; 0; reply_len(g, admin, &sqe) as usize]?;
     desk.take_word(rt, pass, 1);
-    let applied = desk.apply_act(pass, sqe, payload, &mut out);
     desk.put_back(pass);
-    let Applied::Done(posted) = applied else {
-        unreachable!()
-    };
-    Ok(posted.entries.as_slice().first().map(|entry| entry.code))
 }
 
 #[test]
@@ -75,14 +50,15 @@ fn passes_share_the_room(rt: HostRuntime) -> Result<(), Fail> {
         panic!(rt; "there is more room than was left")
     };
     assert_eq!(rt; short, PassErr::RoomShort(2));
-    let second = desk.pass(alloc, &mut main, 2, 2)?;
-    let code = write_a_block(&rt, alloc, &desk, &mut first)?;
-    assert_eq!(rt; code, Some(Code::SUCCESS));
-    assert_eq!(rt; (first.served(), first.spare()), (1, 2));
+    let mut second = desk.pass(alloc, &mut main, 2, 2)?;
+    take_and_give(&rt, &desk, &mut first);
+    let note = desk.note(&mut first);
+    desk.learn(&mut second, note);
+    assert_eq!(rt; (first.served(), first.spare()), (0, 3));
     let solo = desk.close(main, vec![in alloc; first, second]?);
     assert_eq!(rt;
         (solo.journal().len(), solo.spare(), solo.pointer(0)),
-        (1, 4, 1)
+        (0, 5, 0)
     );
     Ok(())
 }

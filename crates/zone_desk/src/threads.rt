@@ -1,6 +1,6 @@
 //! What threads may share, and what may go from one to another.
 use crate::desk::Desk;
-use crate::passes::{MainPass, QueuePass};
+use crate::passes::{MainPass, Note, QueuePass};
 use solo_drive::{Book, Parts, Solo};
 use zone_cell::ZoneCell;
 use zone_model::Act;
@@ -9,13 +9,14 @@ fn may_move<T: Send>() {}
 
 fn may_be_shared<T: Sync>() {}
 
-/// A desk may be shared by threads. Its passes, and what a drive consists of, may go from one
-/// thread to another. The call does nothing: it says so by the bounds of what it calls.
+/// A desk may be shared by threads. Its passes and notes, and what a drive consists of, may go from
+/// one thread to another. The call does nothing: it says so by the bounds of what it calls.
 pub fn threads_may_share() {
     may_be_shared::<Desk>();
     may_move::<Desk>();
     may_move::<MainPass>();
     may_move::<QueuePass>();
+    may_move::<Note>();
     may_move::<Act>();
     may_move::<ZoneCell>();
     may_move::<Book>();

@@ -1,10 +1,7 @@
-use Rattle.std.proofs.Common.{◌≡◌, ℕ, ◌+◌, ◌≤◌, ◌<◌, List, [], ◌∷◌, ◌++◌, length, map, vec_capacity, ap, sym, ◌∙◌, subst, arith, append_assoc, length-append, ⊎_elim}
+use Rattle.std.proofs.Common.{◌≡◌, ℕ, ◌+◌, ◌≤◌, List, [], ◌∷◌, ◌++◌, length, map, ap, sym, ◌∙◌, subst, arith, append_assoc, length-append}
 use Rattle.std.proofs.lemmas.List.{map-append}
 use Rattle.std.specs.Global.{Global}
 use Rattle.std.specs.declared.collections.VecDeque.{VecDeque}
-use mathlib.Core.Option.{some, some-ne-none}
-use lib.ListN.{get_elem?}
-use Rattle.atomic_table.proofs.Lists.{at_longer, at_last}
 use Rattle.zns_types.specs.declared.fields.GeometryFields.{GeometryFields}
 use Rattle.zone_model.specs.declared.act.Act.{Act}
 use Rattle.zone_model.specs.declared.reply.Reply.{Reply}
@@ -15,7 +12,7 @@ use Rattle.zone_desk.specs.Passes.{Pass}
 use Rattle.queue_controller.specs.Replies.{all_responses, Respond}
 use Rattle.queue_controller.specs.Sessions.{AllHave, AllSaid}
 use Rattle.queue_controller.specs.declared.job.Job.{Job}
-use Rattle.queue_controller.proofs.Opened.{all_yielded, at_end}
+use Rattle.queue_controller.proofs.Opened.{all_yielded}
 use Rattle.queue_controller.proofs.SameQueues.{no_acts, merged-same, order-same, merge-same}
 use Rattle.queue_controller.proofs.Rested.{pass_of, FromJobs, from_none, from_more, all_idle, exactly, same_queues, job_said, all_said}
 use Rattle.queue_controller.proofs.closing.finish.Goals as goal

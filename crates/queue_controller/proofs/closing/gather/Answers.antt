@@ -1,16 +1,10 @@
-use Rattle.std.proofs.Common.{◌≡◌, ◌+◌, ◌<◌, ◌≤◌, List, [], ◌∷◌, ◌++◌, length, get_or, set, take, drop, refl, ap, sym, ◌∙◌, subst, arith, length-set}
-use Rattle.std.specs.Prelude.{Option}
-use Rattle.std.specs.Option.{option_to_list}
+use Rattle.std.proofs.Common.{◌≡◌, ◌+◌, ◌<◌, List, [], ◌∷◌, ◌++◌, length, get_or, take, ap, ◌∙◌, subst, arith, length-set}
 use Rattle.std.specs.Global.{Global}
 use Rattle.std.specs.declared.collections.VecDeque.{VecDeque}
-use mathlib.Core.Option.{some}
-use lib.ListN.{get_elem?}
-use Rattle.atomic_table.proofs.Lists.{at_index}
 use Rattle.zone_model.specs.declared.act.Act.{Act}
 use Rattle.zone_model.specs.declared.reply.Reply.{Reply}
-use Rattle.queue_controller.specs.Replies.{response_at, queue_responses, all_responses, Respond}
-use Rattle.queue_controller.specs.Sessions.{AllSaid}
-use Rattle.queue_controller.proofs.Responses.{First, all_responses-push, respond_more}
+use Rattle.queue_controller.specs.Replies.{response_at, all_responses}
+use Rattle.queue_controller.proofs.Responses.{all_responses-push, respond_more}
 use Rattle.queue_controller.proofs.Gathered.{here, near_by, first_here, reply_here, others_here}
 use Rattle.queue_controller.proofs.closing.gather.Goals as goal
 

@@ -1,6 +1,6 @@
 use Rattle.std.proofs.Common.{◌≡◌, ◌+◌, Option, List, [], ◌∷◌, ◌++◌, length, ap, sym, ◌∙◌, subst, arith, length-append}
 use Rattle.std.specs.Option.{option_to_list}
-use Rattle.queue_controller.specs.Jobs.{IsPrepared, ArePrepared, IsReplyTo, acts_in}
+use Rattle.queue_controller.specs.Jobs.{ArePrepared, IsReplyTo, acts_in}
 use Rattle.queue_controller.specs.declared.job.Prepared.{Prepared}
 use Rattle.queue_controller.proofs.Served.{next_own, next_seen, next_replies}
 use Rattle.queue_controller.proofs.job.work.Goals as goal
@@ -26,7 +26,7 @@ loop-prepared-preserved g c =
     record {
       desk_is = c.reply_to-reply.ensures.desk ∙ inv.desk_is;
       queue = s.queue ∙ inv.queue;
-      journal = s.journal;
+      idle = s.idle;
       own = next_own v w x.act P s (acts_in xs) (acts_in c.args.job.now.left.items) (ap (λ (l : List Prepared). v.own ++ acts_in l) (sym items) ∙ inv.own);
       seen = next_seen v w x.act P s mine;
       replies = rw p.items (next_replies geometry v w x.act r s c.loop-prepared.job.replies.items mine inv.seen inv.replies);

@@ -1,5 +1,6 @@
-use Rattle.std.proofs.Common.{◌≡◌, ◌+◌, ◌≤◌, [], ◌++◌, length, vec_capacity, None}
+use Rattle.std.proofs.Common.{◌≡◌, ◌+◌, ◌≤◌, [], ◌++◌, length, vec_capacity}
 use Rattle.zone_model.specs.Sessions.{acts_of}
+use Rattle.zone_desk.specs.Passes.{IsIdle}
 use Rattle.queue_controller.specs.Replies.{queue_responses, Respond}
 use Rattle.queue_controller.specs.Jobs.{ArePrepared, acts_in}
 use Rattle.queue_controller.proofs.job.work.Given as goal
@@ -8,7 +9,7 @@ abbrev pub invariant-loop-prepared : goal.invariant-loop-prepared
 invariant-loop-prepared g l = record {
   desk_is : l.job.pass.desk ≡ l.desk;
   queue : l.job.pass.sight.queue ≡ l.initial.job.pass.sight.queue;
-  journal : l.job.pass.sight.journal ≡ None;
+  idle : IsIdle l.job.pass.sight;
   own : l.job.pass.sight.own ++ acts_in l.job.left.items ≡ acts_in l.initial.job.left.items;
   seen : acts_of l.job.pass.sight.queue l.job.pass.sight.seen ≡ l.job.pass.sight.own;
   replies : Respond l.job.replies.items (queue_responses l.desk.geometry l.job.pass.sight.queue [] l.job.pass.sight.seen);

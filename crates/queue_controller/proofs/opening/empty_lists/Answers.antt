@@ -1,4 +1,4 @@
-use Rattle.std.proofs.Common.{◌≡◌, ◌+◌, ◌∙◌, List, [], ◌∷◌, ap, arith, length, length-append, subst, sym}
+use Rattle.std.proofs.Common.{◌+◌, ◌∙◌, List, [], ◌∷◌, ap, arith, length, length-append, subst, sym}
 use Rattle.std.specs.Global.{Vec}
 use Rattle.queue_controller.specs.Sessions.{AreEmpty}
 use Rattle.queue_controller.specs.declared.job.Prepared.{Prepared}

@@ -1,12 +1,12 @@
-use Rattle.std.proofs.Common.{◌≡◌, List, [], ◌∷◌, ◌++◌, length, sym, ◌∙◌, ap, subst, append_assoc}
+use Rattle.std.proofs.Common.{◌≡◌, List, [], ◌∷◌, ◌++◌, length, Option, None, sym, ◌∙◌, ap, subst, append_assoc}
 use mathlib.Core.Option.{some}
 use lib.ListN.{get_elem?}
+use Rattle.zone_model.specs.Kept.{KeptActs}
 use Rattle.zone_desk.specs.Sights.{joined}
-use Rattle.zone_desk.specs.Passes.{DeskId, Pass, absorbed}
+use Rattle.zone_desk.specs.Passes.{DeskId, Pass, emptied, absorbed}
 use Rattle.zone_desk.specs.declared.sight.Sight.{Sight}
 use Rattle.zone_desk.proofs.Seats.{absorbing}
 use Rattle.zone_desk.proofs.Ends.{at_middle, joined_more, all_yielded}
-use Rattle.zone_desk.proofs.Carried.{carried_none}
 use Rattle.zone_desk.proofs.closing.absorb_all.Goals as goal
 
 pub join_seat-requires : goal.join_seat-requires
@@ -15,13 +15,14 @@ join_seat-requires c =
     let row : c.loop-pass.yielded ++ c.in-Some.pass ∷ c.next.new.self.rest.items ≡ c.args.passes.items = ap (λ (z : List Pass). c.loop-pass.yielded ++ z) (sym c.in-Some.ensures.steps.0) ∙ inv.items in
     let fits = c.requires.idle (length c.loop-pass.yielded) c.in-Some.pass (subst (λ (z : List Pass). get_elem? z (length c.loop-pass.yielded) ≡ some c.in-Some.pass) row (at_middle c.loop-pass.yielded c.next.new.self.rest.items c.in-Some.pass)) in
     let mine = c.pass.invariant in
-    let out = ap (λ (p : Pass). p.sight.journal) c.pass.view_is ∙ fits.1 in
-    let empty = carried_none c.pass.inside.seat.me.0 c.pass.inside.seat.me.1 c.pass.inside.stock c.pass.inside.seat.me.0.journal out mine.carries in (
+    let v : Sight = c.pass.inside.seat.me.0 in
+    let book : v.journal ≡ None = ap (λ (p : Pass). p.sight.journal) c.pass.view_is ∙ fits.1.0 in
+    let cells : v.cells ≡ [] = ap (λ (p : Pass). p.sight.cells) c.pass.view_is ∙ fits.1.1 in (
       inv.table ∙ c.requires.table,
       ap (λ (p : Pass). p.desk.table) c.pass.view_is ∙ ap (λ (d : DeskId). d.table) fits.0,
-      empty.1,
+      mine.carries.empty ∙ (ap (λ (o : Option KeptActs). emptied o v.cells) book ∙ ap (emptied None) cells),
       c.requires.words,
-      absorbing _ _ c.loop-pass.seat.me.0 _ c.pass.inside.seat.me.0 inv.main mine.kind out,
+      absorbing _ _ c.loop-pass.seat.me.0 _ v inv.main mine.kind book cells,
     )
 
 pub loop-pass-preserved : goal.loop-pass-preserved

@@ -41,8 +41,10 @@ close-solo-requires-clause-all g c =
     let one : of c.pass.new.main ≡ Free ∷ Live ∷ Free ∷ [] = ap of c.in_ok-first.ensures.main ∙ ap (λ (l : List Standing). set l 1 Live) none in
     let same : of c.pass-3.new.main ≡ Free ∷ Live ∷ Free ∷ [] = ap of (c.in-Err-pass.ensures.unchanged ∙ c.in-Err.ensures.unchanged) ∙ one in
     let two : of c.pass-4.new.main ≡ Free ∷ Live ∷ Live ∷ [] = ap of c.in_ok-second.ensures.main ∙ ap (λ (l : List Standing). set l 2 Live) same in
-    let first : queue_of c.write_a_block.new.pass ≡ 1 = c.in_ok-code.ensures.queue ∙ ap (λ (v : Sight). v.queue) c.in_ok-first.ensures.sight in
-    let second : queue_of c.in_ok-second.second ≡ 2 = ap (λ (v : Sight). v.queue) c.in_ok-second.ensures.sight in
+    let p : Pass = c.note-note.new.pass in
+    let q : Pass = c.learn.new.pass in
+    let first : queue_of p ≡ 1 = ap queue_of c.note-note.ensures.pass ∙ (c.take_and_give.ensures.queue ∙ ap (λ (v : Sight). v.queue) c.in_ok-first.ensures.sight) in
+    let second : queue_of q ≡ 2 = ap queue_of c.learn.ensures.pass ∙ ap (λ (v : Sight). v.queue) c.in_ok-second.ensures.sight in
     let ps : List Pass = c.in_ok-vec.field-0.items in
-    let all : Exactly (of c.pass-4.new.main) ps = subst (Exactly (of c.pass-4.new.main)) (sym c.in_ok-vec.ensures.items) (exactly_two (of c.pass-4.new.main) c.write_a_block.new.pass c.in_ok-second.second two first second) in
+    let all : Exactly (of c.pass-4.new.main) ps = subst (Exactly (of c.pass-4.new.main)) (sym c.in_ok-vec.ensures.items) (exactly_two (of c.pass-4.new.main) p q two first second) in
     subst (λ (p : Pass). Exactly p.sight.standings ps) (sym c.main-2.view_is) all

@@ -1,0 +1,116 @@
+//! Serves a command without waiting for anybody.
+ghost use Rattle.std.specs.Prelude.{◌≡◌, ◌<◌, length};
+ghost use Rattle.solo_drive.specs.Drives.{HasLengths, act_of};
+ghost use Rattle.solo_drive.specs.Parts.{AreLent};
+ghost use Rattle.solo_drive.specs.Reaching.{zones_of};
+ghost use Rattle.zone_desk.specs.Passes.{IsIdle};
+ghost use Rattle.queue_controller.specs.Trying.{Tries, TriesAll, AttemptsOnce};
+
+use crate::words::{BOOK, try_zones};
+use solo_drive::{Applied, Posted, Reach, reach_of};
+use sqe_codec::Sqe;
+use zns_io::Bytes;
+use zone_desk::{Desk, QueuePass};
+
+/// What became of a command that waits for nobody.
+#[derive(Drop)]
+pub enum Tried {
+    /// It was served.
+    Served(Posted),
+
+    /// A lock word that it needs was found held, and it was not served. The host data comes back.
+    Busy { word: u32, payload: Bytes },
+}
+
+// What became of a command over some zones.
+#[derive(Drop)]
+pub(crate) enum Attempt {
+    Ended(Applied),
+    Stopped { word: u32, payload: Bytes },
+}
+
+// Takes the words of a reach and the book's, serves the command if it can, and gives all back.
+fn try_over(
+    desk: &Desk,
+    pass: &mut QueuePass,
+    reach: Reach,
+    sqe: Sqe,
+    payload: Bytes,
+    out: &mut [u8],
+) -> Attempt
+    requires desk { pass.old.desk ≡ desk.now }
+    requires idle { IsIdle pass.old.sight }
+    requires lent { AreLent desk.now.geometry
+        (act_of pass.old.sight.queue sqe payload) (zones_of desk.now.geometry reach) }
+    requires spare { 0 < pass.old.sight.spare }
+    requires lengths { HasLengths desk.now.geometry
+        (act_of pass.old.sight.queue sqe payload) (length out.old) }
+    ensures desk { pass.new.desk ≡ pass.old.desk }
+    ensures tried { AttemptsOnce desk.now.geometry (act_of pass.old.sight.queue sqe payload)
+        (zones_of desk.now.geometry reach) out.old out.new pass.old.sight result pass.new.sight }
+{
+    if let Some(word) = try_zones(desk, pass, reach) {
+        desk.put_back(pass);
+        return Attempt::Stopped { word, payload };
+    }
+    if !desk.try_word(pass, BOOK) {
+        desk.put_back(pass);
+        return Attempt::Stopped {
+            word: BOOK,
+            payload,
+        };
+    }
+    let applied = desk.apply_act(pass, sqe, payload, out);
+    desk.put_back(pass);
+    Attempt::Ended(applied)
+}
+
+/// Serves one command of the pass's queue as `serve` does, and waits for nobody. Where a lock word
+/// that it needs is held, it is not served, and what the pass has seen and `out` stay: the word is
+/// the book's, 1, or 2 + z of a zone z that the command may read or change, or of any zone where
+/// another may have to give way.
+pub fn try_serve(
+    desk: &Desk,
+    pass: &mut QueuePass,
+    sqe: Sqe,
+    payload: Bytes,
+    out: &mut [u8],
+) -> Tried
+    requires desk { pass.old.desk ≡ desk.now }
+    requires idle { IsIdle pass.old.sight }
+    requires spare { 0 < pass.old.sight.spare }
+    requires lengths { HasLengths desk.now.geometry
+        (act_of pass.old.sight.queue sqe payload) (length out.old) }
+    ensures desk { pass.new.desk ≡ pass.old.desk }
+    ensures tried { Tries desk.now.geometry (act_of pass.old.sight.queue sqe payload)
+        out.old out.new pass.old.sight result pass.new.sight }
+{
+    let reach = reach_of(desk.geometry(), pass.queue(), &sqe);
+    match try_over(desk, pass, reach, sqe, payload, out) {
+        Attempt::Stopped { word, payload } => Tried::Busy { word, payload },
+        Attempt::Ended(applied) => match applied {
+            Applied::Done(posted) => Tried::Served(posted),
+            Applied::Widen { payload } => try_all(desk, pass, sqe, payload, out),
+        },
+    }
+}
+
+// The same over all zones.
+fn try_all(desk: &Desk, pass: &mut QueuePass, sqe: Sqe, payload: Bytes, out: &mut [u8]) -> Tried
+    requires desk { pass.old.desk ≡ desk.now }
+    requires idle { IsIdle pass.old.sight }
+    requires spare { 0 < pass.old.sight.spare }
+    requires lengths { HasLengths desk.now.geometry
+        (act_of pass.old.sight.queue sqe payload) (length out.old) }
+    ensures desk { pass.new.desk ≡ pass.old.desk }
+    ensures tried { TriesAll desk.now.geometry (act_of pass.old.sight.queue sqe payload)
+        out.old out.new pass.old.sight result pass.new.sight }
+{
+    match try_over(desk, pass, Reach::All, sqe, payload, out) {
+        Attempt::Stopped { word, payload } => Tried::Busy { word, payload },
+        Attempt::Ended(applied) => match applied {
+            Applied::Done(posted) => Tried::Served(posted),
+            Applied::Widen { .. } => unreachable!(),
+        },
+    }
+}

@@ -1,0 +1,87 @@
+//! Takes the words of a command's zones, rising.
+ghost use Rattle.std.specs.Prelude.{◌≡◌, ◌+◌, ◌-◌, ◌<◌, ◌≤◌};
+ghost use Rattle.std.specs.List.{range_with_len};
+ghost use Rattle.solo_drive.specs.Reaching.{zones_of};
+ghost use Rattle.zone_desk.specs.Passes.{IsIdle};
+ghost use Rattle.queue_controller.specs.Words.{AreInRow, HasZones, TriesZones};
+
+use solo_drive::Reach;
+use std::sync::Wait;
+use zns_types::Geometry;
+use zone_desk::{Desk, QueuePass};
+
+/// The book's lock word. Those of the zones come after it.
+pub(crate) const BOOK: u32 = 1;
+
+// The zones of a reach are those from the first on before the second.
+fn bounds(g: &Geometry, reach: Reach) -> (u32, u32)
+    requires { AreInRow g.now.fields (zones_of g.now.fields reach) }
+    ensures zones { range_with_len result.0 (result.1 - result.0) ≡ zones_of g.now.fields reach }
+    ensures order { result.0 ≤ result.1 }
+    ensures within { result.1 ≤ g.now.fields.zones }
+    ensures few { result.1 ≤ 4096 }
+{
+    match reach {
+        Reach::Nothing => (0, 0),
+        Reach::Range(first, last) => {
+            if first > last {
+                return (0, 0);
+            }
+            (first, last + 1)
+        }
+        Reach::All => (0, g.fields().zones),
+    }
+}
+
+// Takes the words of zones from the first on before the second.
+fn take_between<R: Wait>(rt: &R, desk: &Desk, pass: &mut QueuePass, first: u32, end: u32)
+    requires desk { pass.old.desk ≡ desk.now }
+    requires idle { IsIdle pass.old.sight }
+    requires order { first ≤ end }
+    requires within { end ≤ desk.now.geometry.zones }
+    requires few { end ≤ 4096 }
+    ensures { HasZones (range_with_len first (end - first)) pass.old pass.new }
+{
+    for zone in first..end {
+        desk.take_word(rt, pass, zone + 2);
+    }
+}
+
+/// Waits for the words of a reach's zones, one after the other.
+pub(crate) fn take_zones<R: Wait>(rt: &R, desk: &Desk, pass: &mut QueuePass, reach: Reach)
+    requires desk { pass.old.desk ≡ desk.now }
+    requires idle { IsIdle pass.old.sight }
+    requires row { AreInRow desk.now.geometry (zones_of desk.now.geometry reach) }
+    ensures { HasZones (zones_of desk.now.geometry reach) pass.old pass.new }
+{
+    let (first, end) = bounds(desk.geometry(), reach);
+    take_between(rt, desk, pass, first, end);
+}
+
+// Takes the words of zones from the first on before the second, and stops at one that is held.
+fn try_between(desk: &Desk, pass: &mut QueuePass, first: u32, end: u32) -> Option<u32>
+    requires desk { pass.old.desk ≡ desk.now }
+    requires idle { IsIdle pass.old.sight }
+    requires order { first ≤ end }
+    requires within { end ≤ desk.now.geometry.zones }
+    requires few { end ≤ 4096 }
+    ensures { TriesZones (range_with_len first (end - first)) pass.old pass.new result }
+{
+    for zone in first..end {
+        if !desk.try_word(pass, zone + 2) {
+            return Some(zone + 2);
+        }
+    }
+    None
+}
+
+/// Takes the words of a reach's zones, one after the other, and stops at one that is held.
+pub(crate) fn try_zones(desk: &Desk, pass: &mut QueuePass, reach: Reach) -> Option<u32>
+    requires desk { pass.old.desk ≡ desk.now }
+    requires idle { IsIdle pass.old.sight }
+    requires row { AreInRow desk.now.geometry (zones_of desk.now.geometry reach) }
+    ensures { TriesZones (zones_of desk.now.geometry reach) pass.old pass.new result }
+{
+    let (first, end) = bounds(desk.geometry(), reach);
+    try_between(desk, pass, first, end)
+}

@@ -1,0 +1,11 @@
+use solo_drive::Book;
+use zone_cell::ZoneCell;
+
+/// What lies in a place of the table: the book, or the cell of a zone, and nothing while a pass has
+/// it.
+#[derive(Drop)]
+pub enum Slot {
+    Away,
+    Ledger(Book),
+    Zone(ZoneCell),
+}
