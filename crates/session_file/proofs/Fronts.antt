@@ -48,6 +48,12 @@ heads-passed bytes e =
       zeros = grind (arith, nat_tests, end.1.0);
     }
 
+-- what begins with a header, where no rule of it is broken
+pub header_front : (bytes : List ℕ) → ((i : ℕ) → slice_index bytes i < 256) → first_holding (header_rows bytes) ≡ None → bytes ≡ header_bytes (geometry_in bytes) (count_in bytes) ++ drop 64 bytes
+header_front bytes fits e =
+    let h : Heads bytes = heads-passed bytes e in
+    sym (header_bytes-in bytes h.long h.magic h.zeros fits)
+
 passed-heads : (bytes : List ℕ) → IsGeometry (geometry_in bytes) → Heads bytes → first_holding (header_rows bytes) ≡ None
 unfolding start_rows end_rows
 passed-heads bytes g h =

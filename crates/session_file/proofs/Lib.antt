@@ -15,3 +15,5 @@ pub mod OrderCounts
 pub mod OrderFronts
 pub mod OrderSteps
 pub mod Spelled
+pub mod Sizes
+pub mod Streams

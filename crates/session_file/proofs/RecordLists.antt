@@ -25,7 +25,7 @@ pub record AreRecords (g : GeometryFields) (bytes : List ℕ) (n at before_sent 
   pub asked : before_asked + asked_bytes g (acts_from n at bytes) ≤ 2 ^ 27
   pub within : end_from n at bytes ≤ length bytes
 
-is_act : (g : GeometryFields) (bytes : List ℕ) (at sent asked : ℕ) → Passes g bytes at sent asked → IsAct g (act_at at bytes)
+pub is_act : (g : GeometryFields) (bytes : List ℕ) (at sent asked : ℕ) → Passes g bytes at sent asked → IsAct g (act_at at bytes)
 unfolding act_at length_at
 is_act g bytes at sent asked p =
     record {
@@ -34,7 +34,7 @@ is_act g bytes at sent asked p =
       payload = length-take-le (length_at at bytes) (drop (at + 72) bytes) (omega (arith, p.within, length-drop (at + 72) bytes)) ∙ p.len;
     }
 
-payload_len : (g : GeometryFields) (bytes : List ℕ) (at sent asked : ℕ) → Passes g bytes at sent asked → length (act_at at bytes).payload ≡ length_at at bytes
+pub payload_len : (g : GeometryFields) (bytes : List ℕ) (at sent asked : ℕ) → Passes g bytes at sent asked → length (act_at at bytes).payload ≡ length_at at bytes
 payload_len g bytes at sent asked p = (is_act g bytes at sent asked p).payload ∙ sym p.len
 
 -- where no rule of them is broken

@@ -3,6 +3,7 @@ pub mod FileRules
 pub mod Faults
 pub mod Headers
 pub mod Results
+pub mod Streams
 pub mod Orders
 pub mod ReasonTexts
 pub mod WhichTexts

@@ -2,14 +2,14 @@ ghost use Rattle.std.specs.Prelude.{◌≡◌, ◌++◌, ◌<◌, ◌≤◌, ◌
 ghost use Rattle.std.specs.List.{flat_map};
 ghost use Rattle.byteorder.specs.Endian.{little_bytes};
 ghost use Rattle.cqe_codec.specs.Entries.{entry_bytes};
-ghost use Rattle.zone_model.specs.Sessions.{own_order, order_bytes};
+ghost use Rattle.zone_model.specs.Sessions.{own_order, order_bytes, reply_part};
 ghost use Rattle.session_file.specs.Results.{part_of, IsShort, result_parts};
 
 use crate::putting::{put_u16, put_u32};
 use cqe_codec::{Cqe, write as write_entry};
 use std::alloc::Global;
 use zns_io::{Bytes, NoMemory};
-use zone_model::{Journal, Replies, Reply};
+use zone_model::{Acts, Journal, Replies, Reply};
 
 // The queues of the acts, in two bytes each.
 fn put_queues(file: &mut Vec<u8>, journal: &Journal) -> Result<(), NoMemory>
@@ -33,6 +33,28 @@ fn put_order(file: &mut Vec<u8>, journal: &Journal) -> Result<(), NoMemory>
     Ok(())
 }
 
+// The queues of acts in the order in which they stand, in two bytes each.
+fn put_own_queues(file: &mut Vec<u8>, acts: &Acts) -> Result<(), NoMemory>
+    ensures { OnOk result (file.new.items
+        ≡ file.old.items ++ flat_map (little_bytes 2) (own_order acts.now.acts)) }
+{
+    for number in 0..acts.len() {
+        put_u16(file, acts.act(number).queue)?;
+    }
+    Ok(())
+}
+
+/// The order of acts that are served as they stand.
+pub fn put_own_order(file: &mut Vec<u8>, acts: &Acts) -> Result<(), NoMemory>
+    ensures { OnOk result (file.new.items
+        ≡ file.old.items ++ order_bytes (own_order acts.now.acts)) }
+{
+    file.extend_from_slice(b"ZNSR0001")?;
+    put_u32(file, acts.len())?;
+    put_own_queues(file, acts)?;
+    Ok(())
+}
+
 // Entries, in 16 bytes each.
 fn put_entries(file: &mut Vec<u8>, entries: &[Cqe]) -> Result<(), NoMemory>
     ensures { OnOk result (file.new.items ≡ file.old.items ++ flat_map entry_bytes entries.now) }
@@ -43,18 +65,25 @@ fn put_entries(file: &mut Vec<u8>, entries: &[Cqe]) -> Result<(), NoMemory>
     Ok(())
 }
 
-// A reply: its entries and what it read, each with its number before it.
-fn put_reply(file: &mut Vec<u8>, reply: &Reply) -> Result<(), NoMemory>
-    requires { IsShort reply.now }
-    ensures { OnOk result (file.new.items ≡ file.old.items ++ part_of reply.now) }
+/// What is written of an act: its entries and what it read, each with its number before it.
+pub fn put_part(file: &mut Vec<u8>, entries: &[Cqe], read: &[u8]) -> Result<(), NoMemory>
+    requires few { length entries.now < 2 ^ 16 }
+    requires short { length read.now < 2 ^ 32 }
+    ensures { OnOk result (file.new.items ≡ file.old.items ++ reply_part entries.now read.now) }
 {
-    let entries = reply.entries.as_slice();
-    let read = reply.read.as_slice();
     put_u16(file, entries.len() as u16)?;
     put_entries(file, entries)?;
     put_u32(file, read.len() as u32)?;
     file.extend_from_slice(read)?;
     Ok(())
+}
+
+// A reply.
+fn put_reply(file: &mut Vec<u8>, reply: &Reply) -> Result<(), NoMemory>
+    requires { IsShort reply.now }
+    ensures { OnOk result (file.new.items ≡ file.old.items ++ part_of reply.now) }
+{
+    put_part(file, reply.entries.as_slice(), reply.read.as_slice())
 }
 
 // All replies, in order.

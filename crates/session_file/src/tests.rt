@@ -138,5 +138,15 @@ fn a_result_is_written(rt: HostRuntime) -> Result<(), Fail> {
         \x00\x00\x00\x00\x00\x00\x00\x00\x01\x00\x01\x00\x01\x00\x01\x00\
         \x01\x00\x00\x00\x07\x08";
     assert!(rt; bytes.starts_with(front));
+    let mut acts = Acts::new(alloc, 1)?;
+    acts.push(Act {
+        queue: 1,
+        sqe: Sqe { bytes: [0; 64] },
+        payload: Bytes::empty(alloc),
+    });
+    let mut file = ResultFile::new(alloc, &acts)?;
+    file.put(replies.reply(0).entries.as_slice(), &[7])?;
+    let file = file.finish(&[8; 64], &[9; 4096])?;
+    assert!(rt; file.as_slice() == bytes);
     Ok(())
 }

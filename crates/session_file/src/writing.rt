@@ -51,8 +51,8 @@ fn put_windows(file: &mut Vec<u8>, g: &GeometryFields) -> Result<(), NoMemory>
     Ok(())
 }
 
-// The header of a session of so many acts.
-fn put_header(file: &mut Vec<u8>, g: &GeometryFields, acts: u32) -> Result<(), NoMemory>
+/// The header of a session of so many acts.
+pub fn put_header(file: &mut Vec<u8>, g: &GeometryFields, acts: u32) -> Result<(), NoMemory>
     ensures { OnOk result (file.new.items ≡ file.old.items ++ header_bytes g.now acts) }
 {
     put_start(file, g)?;
@@ -78,8 +78,8 @@ fn put_act(file: &mut Vec<u8>, act: &Act) -> Result<(), NoMemory>
     Ok(())
 }
 
-// The records of acts, in order.
-fn put_acts(file: &mut Vec<u8>, acts: &Acts) -> Result<(), NoMemory>
+/// The records of acts, in order.
+pub fn put_acts(file: &mut Vec<u8>, acts: &Acts) -> Result<(), NoMemory>
     requires { All (λ (a : Act). length a.payload < 2 ^ 32) acts.now.acts }
     ensures { OnOk result (file.new.items
         ≡ file.old.items ++ flat_map record_bytes acts.now.acts) }

@@ -1,0 +1,152 @@
+-- What is read of a source, piece by piece.
+use Rattle.std.proofs.Common.{◌≡◌, ℕ, ◌+◌, ◌^◌, ◌<◌, ◌≤◌, List, [], ◌∷◌, ◌++◌, length, drop, Option, Some, None, refl, sym, ap, subst, ◌∙◌, arith}
+use Rattle.std.proofs.lemmas.List.{append_assoc, append-nil, flat_map_more, length-append}
+use Rattle.std.specs.Prelude.{All, slice_index, Result, Ok, Err, IfOk, OnErr}
+use Rattle.std.specs.List.{flat_map}
+use Rattle.std.specs.Io.KnownBytes.{Consumes, IsAtEnd}
+use Rattle.zns_types.specs.declared.fields.GeometryFields.{GeometryFields}
+use Rattle.zns_types.specs.Rows.{first_holding}
+use Rattle.sqe_codec.specs.Commands.{reply_len}
+use Rattle.zns_io.specs.Reading.{ReadsAll, ReadsFrontUpTo}
+use Rattle.zns_io.proofs.ReadLemmas.{ReadsFront-consumed}
+use Rattle.zone_model.specs.declared.act.Act.{Act}
+use Rattle.zone_model.specs.Places.{command_of}
+use Rattle.zone_model.specs.Sessions.{Recorded, IsAct, sum_of, header_bytes, record_bytes, sent_bytes, spelling}
+use Rattle.session_file.specs.declared.records.Progress.{Progress}
+use Rattle.session_file.specs.declared.feed_err.FeedErr.{FeedErr}
+use Rattle.session_file.specs.declared.given.Given.{Given}
+use Rattle.session_file.specs.declared.given.Given.TheVariants.{Whole, Front}
+use Rattle.session_file.specs.Places.{geometry_in, count_in, length_at, act_at, next_at}
+use Rattle.session_file.specs.FileRules.{record_rows, header_rows}
+use Rattle.session_file.specs.Streams.{GoesOn, StopsWithin, IsNext, Gives, GivesAfter}
+use Rattle.session_file.proofs.Fronts.{header_front}
+use Rattle.session_file.proofs.RecordPlaces.{record_bytes-act_at}
+use Rattle.session_file.proofs.RecordRows.{Passes, passes-record}
+use Rattle.session_file.proofs.RecordLists.{is_act, payload_len}
+use Rattle.session_file.proofs.Sizes.{header_size, records_size}
+
+-- the bytes that were held are these
+pub goes_on-same : (left : Option (List ℕ)) (held after : List ℕ) → held ≡ after → GoesOn left left held after
+goes_on-same left held after same = λ first front came. subst (λ (b : List ℕ). Consumes first left (front ++ b)) same came
+
+-- others came before them
+pub goes_on-behind : (left now : Option (List ℕ)) (before held after : List ℕ) → GoesOn left now held after → GoesOn left now (before ++ held) (before ++ after)
+goes_on-behind left now before held after more = λ first front came.
+    subst (Consumes first now) (append_assoc front before after) (more first (front ++ before) (subst (Consumes first left) (sym (append_assoc front before held)) came))
+
+-- one went on after the other
+pub goes_on-then : (left mid now : Option (List ℕ)) (held between after : List ℕ) → GoesOn left mid held between → GoesOn mid now between after → GoesOn left now held after
+goes_on-then left mid now held between after one two = λ first front came. two first front (one first front came)
+
+-- nothing was read of a source at first
+nothing_read : (left : Option (List ℕ)) → Consumes left left []
+nothing_read None = tt
+nothing_read (Some bytes) = refl
+
+-- the source ended with it
+pub read_all_of : (left now : Option (List ℕ)) (bytes : List ℕ) → Consumes left now bytes → IsAtEnd now → ReadsAll left now bytes
+read_all_of None now bytes read end = tt
+read_all_of (Some told) None bytes read end = absurd read
+read_all_of (Some told) (Some rest) bytes read end = (sym (read ∙ ap (λ (b : List ℕ). bytes ++ b) end ∙ append-nil bytes), ap Some end)
+
+-- what came first
+pub came_first : (left now : Option (List ℕ)) (held after : List ℕ) → held ≡ [] → GoesOn left now held after → Consumes left now after
+came_first left now held after none more = more left [] (subst (Consumes left left) (sym none) (nothing_read left))
+
+-- ---- records
+
+-- a record that breaks no rule, and what comes after it
+pub taken_record : (g : GeometryFields) (bytes : List ℕ) (sent asked : ℕ) → ((i : ℕ) → slice_index bytes i < 256) → first_holding (record_rows g bytes 0 sent asked) ≡ None → bytes ≡ record_bytes (act_at 0 bytes) ++ drop (next_at 0 bytes) bytes
+taken_record g bytes sent asked fits passed =
+    let p : Passes g bytes 0 sent asked = passes-record g bytes 0 sent asked passed in
+    sym (record_bytes-act_at 0 bytes p.within p.zeros fits)
+
+pub next_record : (g : GeometryFields) (bytes : List ℕ) (before after : Progress) (a : Act) → first_holding (record_rows g bytes 0 before.sent before.asked) ≡ None → a ≡ act_at 0 bytes
+    → after.sent ≡ before.sent + length_at 0 bytes → after.asked ≡ before.asked + reply_len g (command_of (act_at 0 bytes)) → after.sent ≤ 2 ^ 27 → after.asked ≤ 2 ^ 27
+    → IsNext g before (record { act = a; after = after })
+next_record g bytes before after a passed is sent asked few_sent few_asked =
+    let p : Passes g bytes 0 before.sent before.asked = passes-record g bytes 0 before.sent before.asked passed in
+    record {
+      act = rw is (is_act g bytes 0 before.sent before.asked p);
+      sent = sent ∙ sym (ap (λ (n : ℕ). before.sent + n) (ap (λ (x : Act). length x.payload) is ∙ payload_len g bytes 0 before.sent before.asked p));
+      asked = asked ∙ sym (ap (λ (x : Act). before.asked + reply_len g (command_of x)) is);
+      few_sent = few_sent;
+      few_asked = few_asked;
+    }
+
+-- a sum over one act more
+pub sum_of-push : (f : Act → ℕ) (acts : List Act) (a : Act) → sum_of f (acts ++ a ∷ []) ≡ sum_of f acts + f a
+sum_of-push f [] a = omega arith
+sum_of-push f (b ∷ acts) a = omega (arith, sum_of-push f acts a)
+
+-- one record more
+pub one_record_more : (left mid now : Option (List ℕ)) (first held after : List ℕ) (acts : List Act) (a : Act) → GoesOn left mid first (flat_map record_bytes acts ++ held) → GoesOn mid now held (record_bytes a ++ after) → GoesOn left now first (flat_map record_bytes (acts ++ a ∷ []) ++ after)
+one_record_more left mid now first held after acts a so_far more =
+    let all : flat_map record_bytes acts ++ (record_bytes a ++ after) ≡ flat_map record_bytes (acts ++ a ∷ []) ++ after =
+    sym (append_assoc (flat_map record_bytes acts) (record_bytes a) after) ∙ ap (λ (b : List ℕ). b ++ after) (flat_map_more record_bytes [] acts a) in
+    goes_on-then left now now first (flat_map record_bytes acts ++ (record_bytes a ++ after)) _
+    (goes_on-then left mid now first (flat_map record_bytes acts ++ held) _ so_far (goes_on-behind mid now (flat_map record_bytes acts) held (record_bytes a ++ after) more))
+    (goes_on-same now _ _ all)
+
+-- reading ends after some records
+pub stops_after : (left mid now : Option (List ℕ)) (first held after : List ℕ) (g : GeometryFields) (acts : List Act) → GoesOn left mid first (flat_map record_bytes acts ++ held) → GoesOn mid now held after
+    → All (IsAct g) acts → length acts ≤ 262144 → sent_bytes acts ≤ 2 ^ 27 → length after ≤ 2 ^ 28 + 131072 → StopsWithin left now first
+stops_after left mid now first held after g acts so_far more all few sent short =
+    record {
+      after = flat_map record_bytes acts ++ after;
+      goes_on = goes_on-then left mid now first (flat_map record_bytes acts ++ held) _ so_far (goes_on-behind mid now (flat_map record_bytes acts) held after more);
+      few = omega (arith, length-append (flat_map record_bytes acts) after, records_size g acts all);
+    }
+
+-- or at once
+pub stops_here : (left : Option (List ℕ)) (held : List ℕ) → length held ≤ 2 ^ 28 + 65536 → StopsWithin left left held
+stops_here left held short = record { after = held; goes_on = goes_on-same left held held refl; few = omega arith }
+
+-- ---- what a source gave
+
+-- two steps behind a front that was taken
+both : (left mid now : Option (List ℕ)) (front first held after : List ℕ) (acts : List Act) → GoesOn left mid first (flat_map record_bytes acts ++ held) → GoesOn mid now held after → GoesOn left now (front ++ first) (front ++ (flat_map record_bytes acts ++ after))
+both left mid now front first held after acts one two =
+    goes_on-behind left now front first (flat_map record_bytes acts ++ after)
+    (goes_on-then left mid now first (flat_map record_bytes acts ++ held) _ one (goes_on-behind mid now (flat_map record_bytes acts) held after two))
+
+pub whole_session : (left mid now : Option (List ℕ)) (first held after : List ℕ) (s : Recorded) (n : ℕ) → GoesOn left mid first (flat_map record_bytes s.acts ++ held) → GoesOn mid now held after → after ≡ [] → length s.acts ≡ n
+    → (source : Option (List ℕ)) → Consumes source left (header_bytes s.geometry n ++ first) → Consumes source now (spelling s)
+unfolding spelling
+whole_session left mid now first held after s n one two none count = λ source came.
+    let all : List ℕ = flat_map record_bytes s.acts in
+    let is : header_bytes s.geometry n ++ (all ++ after) ≡ header_bytes s.geometry (length s.acts) ++ all =
+    ap (λ (b : List ℕ). header_bytes s.geometry n ++ (all ++ b)) none ∙ ap (λ (b : List ℕ). header_bytes s.geometry n ++ b) (append-nil all) ∙ ap (λ (k : ℕ). header_bytes s.geometry k ++ all) (sym count) in
+    subst (Consumes source now) is (both left mid now (header_bytes s.geometry n) first held after s.acts one two source [] came)
+
+pub bytes_so_far : (left mid now : Option (List ℕ)) (first held after bytes : List ℕ) (g : GeometryFields) (n : ℕ) (acts : List Act) → GoesOn left mid first (flat_map record_bytes acts ++ held) → GoesOn mid now held after → bytes ≡ header_bytes g n ++ (flat_map record_bytes acts ++ after)
+    → (source : Option (List ℕ)) → Consumes source left (header_bytes g n ++ first) → Consumes source now bytes
+bytes_so_far left mid now first held after bytes g n acts one two is = λ source came.
+    subst (Consumes source now) (sym is) (both left mid now (header_bytes g n) first held after acts one two source [] came)
+
+pub few_so_far : (after bytes : List ℕ) (g : GeometryFields) (n : ℕ) (acts : List Act) → bytes ≡ header_bytes g n ++ (flat_map record_bytes acts ++ after) → All (IsAct g) acts → length acts ≤ 262144 → sent_bytes acts ≤ 2 ^ 27 → length after ≤ 2 ^ 28 + 131072 → length bytes ≤ 2 ^ 29
+few_so_far after bytes g n acts is all few sent short =
+    omega (arith, ap length is, length-append (header_bytes g n) (flat_map record_bytes acts ++ after), header_size g n, length-append (flat_map record_bytes acts) after, records_size g acts all)
+
+-- a header that was taken, and what came after it
+pub header_taken : (rest held after : List ℕ) (g : GeometryFields) (n : ℕ) → rest ≡ held → ((i : ℕ) → slice_index rest i < 256) → first_holding (header_rows rest) ≡ None → g ≡ geometry_in rest → n ≡ count_in rest → after ≡ drop 64 held → held ≡ header_bytes g n ++ after
+header_taken rest held after g n same fits passed fields count skipped =
+    sym same ∙ header_front rest fits passed
+    ∙ ap (λ (b : List ℕ). header_bytes (geometry_in rest) (count_in rest) ++ b) (ap (drop 64) same ∙ sym skipped)
+    ∙ ap (λ (x : GeometryFields). header_bytes x (count_in rest) ++ after) (sym fields)
+    ∙ ap (λ (k : ℕ). header_bytes g k ++ after) (sym count)
+
+-- how far a source was read from which so many bytes came
+pub read_front : (left now : Option (List ℕ)) (bytes : List ℕ) → Consumes left now bytes → length bytes ≤ 2 ^ 29 → ReadsFrontUpTo left now (2 ^ 29)
+read_front left now bytes read few = (length bytes, few, ReadsFront-consumed left now bytes (length bytes) read refl)
+
+-- what it gave, with the header
+pub gives_all : (left mid now : Option (List ℕ)) (header held : List ℕ) (r : Result Given FeedErr) → Consumes left mid (header ++ held) → IfOk r (GivesAfter mid now header held) → IfOk r (Gives left now)
+gives_all left mid now header held (Ok (Whole s)) came gave = (gave.session, read_all_of left now (spelling s) (gave.read left came) gave.end)
+gives_all left mid now header held (Ok (Front bytes)) came gave = (gave.read left came, gave.few)
+gives_all left mid now header held (Err e) came gave = gave
+
+pub stops_all : (left mid now : Option (List ℕ)) (header held : List ℕ) (r : Result Given FeedErr) → Consumes left mid (header ++ held) → length header ≡ 64 → OnErr r (StopsWithin mid now held) → OnErr r (ReadsFrontUpTo left now (2 ^ 29))
+stops_all left mid now header held (Ok given) came size stops = stops
+stops_all left mid now header held (Err e) came size stops =
+    read_front left now (header ++ stops.after) (stops.goes_on left header came) (omega (arith, stops.few, size, length-append header stops.after))

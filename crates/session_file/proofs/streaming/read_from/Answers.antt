@@ -1,0 +1,57 @@
+use Rattle.std.proofs.Common.{◌≡◌, ◌++◌, length, ap, subst, ◌∙◌, arith}
+use Rattle.std.proofs.lemmas.List.{length-drop}
+use Rattle.std.proofs.lemmas.Result.{err_from_is_err_and}
+use Rattle.std.specs.Io.KnownBytes.{Consumes}
+use Rattle.zone_model.specs.Sessions.{header_bytes}
+use Rattle.session_file.proofs.Sizes.{header_size}
+use Rattle.session_file.proofs.Streams.{came_first, read_front, header_taken, gives_all, stops_all}
+use Rattle.session_file.proofs.streaming.read_from.Goals as goal
+
+pub returns-in_err-fill_header-clause-stops : goal.returns-in_err-fill_header-clause-stops
+returns-in_err-fill_header-clause-stops g c =
+    let p = err_from_is_err_and c.from_residual.result c.from_residual.ensures.1 in
+    let left = g.S.Source.left c.args.source.now in
+    let now = g.S.Source.left c.fill_header.new.source in
+    let came = came_first left now c.new-feed.result c.fill_header.new.feed c.new-feed.ensures c.in_err-fill_header.ensures.goes_on in
+    rw p.1 (read_front left now c.fill_header.new.feed came (omega (arith, c.in_err-fill_header.ensures.few)))
+
+pub read_after-requires-clause-held : goal.read_after-requires-clause-held
+read_after-requires-clause-held g c = omega (arith, ap length c.skip.ensures, length-drop 64 c.fill_header.new.feed, c.in_ok-fill_header.ensures.few)
+
+pub returns-in_err-of-in-Err-clause-stops : goal.returns-in_err-of-in-Err-clause-stops
+returns-in_err-of-in-Err-clause-stops g c =
+    let p = err_from_is_err_and c.from_residual-in_err-of-in-Err.result c.from_residual-in_err-of-in-Err.ensures.1 in
+    let left = g.S.Source.left c.args.source.now in
+    let now = g.S.Source.left c.fill_header.new.source in
+    let came = came_first left now c.new-feed.result c.fill_header.new.feed c.new-feed.ensures c.in_ok-fill_header.ensures.goes_on in
+    rw p.1 (read_front left now c.fill_header.new.feed came (omega (arith, c.in_ok-fill_header.ensures.few)))
+
+pub returns-in-Ok-clause-gives : goal.returns-in-Ok-clause-gives
+returns-in-Ok-clause-gives g c =
+    let left = g.S.Source.left c.args.source.now in
+    let mid = g.S.Source.left c.fill_header.new.source in
+    let now = g.S.Source.left c.read_after.new.source in
+    let header = header_bytes c.in-Ok.header.geometry.fields c.in-Ok.header.commands in
+    let split : c.fill_header.new.feed ≡ header ++ c.skip.new.self =
+    header_taken c.rest.result.now c.fill_header.new.feed c.skip.new.self c.in-Ok.header.geometry.fields c.in-Ok.header.commands c.rest.ensures.rest c.rest.ensures.bytes c.in-Ok.ensures.passed c.in-Ok.ensures.geometry c.in-Ok.ensures.commands c.skip.ensures in
+    let came : Consumes left mid (header ++ c.skip.new.self) = subst (Consumes left mid) split (came_first left mid c.new-feed.result c.fill_header.new.feed c.new-feed.ensures c.in_ok-fill_header.ensures.goes_on) in
+    gives_all left mid now header c.skip.new.self c.read_after.result came c.read_after.ensures.gives
+
+pub returns-in-Ok-clause-stops : goal.returns-in-Ok-clause-stops
+returns-in-Ok-clause-stops g c =
+    let left = g.S.Source.left c.args.source.now in
+    let mid = g.S.Source.left c.fill_header.new.source in
+    let now = g.S.Source.left c.read_after.new.source in
+    let header = header_bytes c.in-Ok.header.geometry.fields c.in-Ok.header.commands in
+    let split : c.fill_header.new.feed ≡ header ++ c.skip.new.self =
+    header_taken c.rest.result.now c.fill_header.new.feed c.skip.new.self c.in-Ok.header.geometry.fields c.in-Ok.header.commands c.rest.ensures.rest c.rest.ensures.bytes c.in-Ok.ensures.passed c.in-Ok.ensures.geometry c.in-Ok.ensures.commands c.skip.ensures in
+    let came : Consumes left mid (header ++ c.skip.new.self) = subst (Consumes left mid) split (came_first left mid c.new-feed.result c.fill_header.new.feed c.new-feed.ensures c.in_ok-fill_header.ensures.goes_on) in
+    stops_all left mid now header c.skip.new.self c.read_after.result came (header_size c.in-Ok.header.geometry.fields c.in-Ok.header.commands) c.read_after.ensures.stops
+
+pub returns-in_ok-of-in-Err-clause-gives : goal.returns-in_ok-of-in-Err-clause-gives
+returns-in_ok-of-in-Err-clause-gives g c =
+    let left = g.S.Source.left c.args.source.now in
+    let now = g.S.Source.left c.fill_header.new.source in
+    let came = came_first left now c.new-feed.result c.fill_header.new.feed c.new-feed.ensures c.in_ok-fill_header.ensures.goes_on in
+    let same : c.in_ok-of-in-Err.field-0 ≡ c.fill_header.new.feed = c.in_ok-of-in-Err.ensures ∙ c.rest-in-Err.ensures.rest in
+    rw same (came, omega (arith, c.in_ok-fill_header.ensures.few))

@@ -1,0 +1,98 @@
+ghost use Rattle.std.specs.Prelude.{◌≡◌, ℕ, ◌+◌, ◌<◌, ◌≤◌, [], true, false, length, drop, slice_index, IfOk, IsErrOf};
+ghost use Rattle.std.specs.Io.KnownBytes.{IsAtEnd};
+ghost use Rattle.zns_io.specs.Faults.{Rose};
+ghost use Rattle.session_file.specs.Streams.{GoesOn};
+
+use crate::feed_err::FeedErr;
+use std::alloc::Global;
+use std::marker::Model;
+use zns_io::{NoMemory, Source};
+
+// How many bytes are read at once.
+const PIECE: usize = 65536;
+
+// The same bytes, whose numbers are known to be bytes.
+fn known(bytes: &[u8]) -> &[u8]
+    ensures same { result.now ≡ bytes.now }
+    ensures bytes { (i : ℕ) → slice_index bytes.now i < 256 }
+{
+    bytes
+}
+
+/// Bytes that came from a source and weren't taken yet.
+#[derive(Drop)]
+pub struct Feed {
+    bytes: Vec<u8>,
+    at: usize,
+}
+
+impl Model for Feed {
+    ghost use Rattle.std.specs.Prelude.{ℕ, List, ◌≤◌, drop, vec_len};
+
+    ghost Value = { List ℕ };
+
+    ghost view = { λ f. drop f.at f.bytes.items };
+
+    ghost invariant = { λ f. f.at ≤ vec_len f.bytes };
+}
+
+impl Feed {
+    /// Nothing came yet.
+    pub fn new(alloc: Global) -> Feed
+        ensures { result ≡ [] }
+    {
+        Feed {
+            bytes: Vec::new(alloc),
+            at: 0,
+        }
+    }
+
+    /// The bytes.
+    pub fn rest(&self) -> &[u8]
+        ensures rest { result.now ≡ self.now }
+        ensures bytes { (i : ℕ) → slice_index result.now i < 256 }
+    {
+        known(&self.bytes[self.at..])
+    }
+
+    /// Takes so many bytes from the front.
+    pub fn skip(&mut self, count: usize)
+        requires { count ≤ length self.old }
+        ensures { self.new ≡ drop count self.old }
+    {
+        self.at += count;
+    }
+
+    // Keeps the bytes alone, where others were taken before them.
+    fn settle(&mut self, alloc: Global) -> Result<(), NoMemory>
+        ensures { self.new ≡ self.old }
+    {
+        if self.at > 0 {
+            let rest = self.bytes.len() - self.at;
+            let mut bytes = Vec::with_capacity(alloc, rest + PIECE)?;
+            bytes.extend_from_slice(&self.bytes[self.at..])?;
+            self.bytes = bytes;
+            self.at = 0;
+        }
+        Ok(())
+    }
+
+    /// Reads a piece more, of at most 65,536 bytes, and says whether some came.
+    pub fn more<S: Source>(&mut self, alloc: Global, source: &mut S) -> Result<bool, FeedErr>
+        ensures goes_on { GoesOn (S.left source.old) (S.left source.new) self.old self.new }
+        ensures few { length self.new ≤ length self.old + 65536 }
+        ensures some { IfOk result (λ some. some ≡ true → length self.old < length self.new) }
+        ensures none { IfOk result (λ some. some ≡ false → self.new ≡ self.old) }
+        ensures end { IfOk result (λ some. some ≡ false → IsAtEnd (S.left source.new)) }
+        ensures fault { IsErrOf result FeedErr.Failed
+            → Rose (S.faults source.old) (S.faults source.new) }
+        ensures never_falls { S.faults source.old ≤ S.faults source.new }
+    {
+        self.settle(alloc)?;
+        self.bytes.reserve(PIECE)?;
+        let mut piece = [0; PIECE];
+        let count = source.read(&mut piece)?;
+        self.bytes.extend_from_slice(&piece[..count]).unwrap();
+        Ok(count > 0)
+    }
+}
