@@ -1,5 +1,5 @@
 -- A drive of one's own posts an entry for each command that is no event request.
-use Rattle.std.proofs.Common.{◌≡◌, ◌<◌, false, List, [], ◌∷◌, length, Some, arith}
+use Rattle.std.proofs.Common.{◌≡◌, ◌<◌, Bool, true, false, ◌||◌, List, [], ◌∷◌, length, Some, arith}
 use Rattle.std.specs.Prelude.{slice_get}
 use Rattle.zone_model.specs.declared.act.Act.{Act}
 use Rattle.zone_model.specs.Places.{command_of, is_event_request}
@@ -12,3 +12,8 @@ some_first (y ∷ ys) x e = omega arith
 
 pub posts : (d : Drive) (a : Act) → is_event_request (command_of a) ≡ false → 0 < length (entries_for d a)
 posts d a other = some_first (entries_for d a) _ (posted-first d.geometry (history d) a other)
+
+-- where neither holds, the second doesn't
+pub neither : (a b : Bool) → (a || b) ≡ false → b ≡ false
+neither false b e = e
+neither true b e = absurd (cc e)

@@ -18,7 +18,7 @@ pub record SpellsFirst (entries : List Cqe) (bytes : List ℕ) : Type 0 where
   pub first : slice_get entries 0 ≡ Some entry
   pub spells : Spells bytes entry
 
--- the entry, and the bytes read in front of the room, are the definitions' for an act after these
+-- the entry, and the bytes read at the start of the room, are the definitions' for an act after these
 pub record IsAnswered (g : GeometryFields) (acts : List Act) (a : Act) (bytes : List ℕ) (count : ℕ) (out : List ℕ) : Type 0 where
   pub entry : SpellsFirst (posted g (answered g acts) a) bytes
   pub len : count ≡ length (reply_bytes g (answered g acts) a)

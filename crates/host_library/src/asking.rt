@@ -98,7 +98,7 @@ fn shadow_led(g: &Geometry, deed: Option<Deed>, shadow: Shadow) -> Shadow
     }
 }
 
-/// The shadow of a command's zone, after the command succeeded and put what it read in front of
+/// The shadow of a command's zone, after the command succeeded and put what it read at the start of
 /// `out`.
 pub(crate) fn shadow_done(
     g: &Geometry,

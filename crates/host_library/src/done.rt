@@ -4,12 +4,13 @@ pub struct Done {
     /// The number that the command's call answered.
     pub cid: u16,
 
-    /// The first dword of the result. After an append, the low half of the number of its first block.
+    /// The first dword of the result. After an append, the low half of the number of its first
+    /// block.
     pub dw0: u32,
 
     /// The second dword of the result. After an append, the high half.
     pub dw1: u32,
 
-    /// How many bytes the command read, in front of `out`.
+    /// How many bytes the command read, at the start of `out`.
     pub len: u32,
 }

@@ -3,6 +3,7 @@
 
 mod asking;
 mod done;
+mod fail_link;
 mod host;
 mod host_err;
 mod link;
@@ -13,6 +14,7 @@ mod shadows;
 mod stage;
 
 pub use done::Done;
+pub use fail_link::FailLink;
 pub use host::Host;
 pub use host_err::HostErr;
 pub use link::Link;

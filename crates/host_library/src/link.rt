@@ -28,7 +28,7 @@ pub trait Link: Drop {
     ghost step: { Self → Act → List ℕ → Answer → List ℕ → Self → Type 0 };
 
     /// Sends an entry on a queue, with its host data. Answers the first entry that the drive posts
-    /// for it, and how many bytes it read, in front of `out`; or gives the host data back.
+    /// for it, and how many bytes it read, at the start of `out`; or gives the host data back.
     fn send(
         &mut self,
         queue: u16,

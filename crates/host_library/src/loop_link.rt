@@ -1,4 +1,4 @@
-ghost use Rattle.std.specs.Prelude.{◌≡◌, ◌<◌, Some, length, slice_get};
+ghost use Rattle.std.specs.Prelude.{◌≡◌, ◌==◌, ◌||◌, ◌<◌, Some, length, slice_get};
 ghost use Rattle.sqe_codec.specs.Commands.{command};
 ghost use Rattle.zone_model.specs.Places.{is_event_request};
 
@@ -25,8 +25,17 @@ fn is_event_request(sqe: &Sqe, admin: bool) -> bool
     matches!(read(sqe, admin), Cmd::Event)
 }
 
+// Whether a drive can't serve an entry: it has no room for one more act, or the entry asks for the
+// next event.
+pub(crate) fn cannot_serve(drive: &Solo, sqe: &Sqe, admin: bool) -> bool
+    ensures { result
+        ≡ ((drive.now.spare == 0) || is_event_request (command admin sqe.now.bytes)) }
+{
+    drive.spare() == 0 || is_event_request(sqe, admin)
+}
+
 // The entry that a command posted for itself.
-fn own_entry(entries: &ArrayVec<Cqe, 2>) -> Cqe
+pub(crate) fn own_entry(entries: &ArrayVec<Cqe, 2>) -> Cqe
     requires { 0 < length entries.now.items }
     ensures { slice_get entries.now.items 0 ≡ Some result }
 {
@@ -62,7 +71,7 @@ impl Link for LoopLink {
         payload: Bytes,
         out: &mut [u8],
     ) -> Result<([u8; 16], u32), Bytes> {
-        if self.drive.spare() == 0 || is_event_request(sqe, queue == 0) {
+        if cannot_serve(&self.drive, sqe, queue == 0) {
             self.faults = self.faults.saturating_add(1);
             return Err(payload);
         }

@@ -1,7 +1,7 @@
 ghost use Rattle.std.specs.Prelude.{◌≡◌, ◌≤◌, IfOk, None};
 ghost use Rattle.host_library.specs.Asking.{IsData};
 
-use crate::{Done, Host, HostErr, Link, LoopLink, Shadow, Stage};
+use crate::{Done, FailLink, Host, HostErr, Link, LoopLink, Shadow, Stage};
 use solo_drive::Solo;
 use sqe_codec::Sqe;
 use std::alloc::Global;
@@ -71,7 +71,7 @@ fn refusal(answer: &Result<Option<Done>, HostErr>) -> Option<(u8, u8)> {
 }
 
 // Sends the oldest command, and gives the number of the block that an append wrote first.
-fn sent(host: &mut Host<LoopLink>, out: &mut [u8; 128]) -> Result<u64, Fail>
+fn sent<L: Link>(host: &mut Host<L>, out: &mut [u8; 128]) -> Result<u64, Fail>
     ensures { host.new.geometry ≡ host.old.geometry }
 {
     let done = host.pump(out)?.ok_or("nothing waits")?;
@@ -151,6 +151,28 @@ fn a_file_system_goes_round(rt: HostRuntime) -> Result<(), Fail> {
     host.report(1)?;
     sent(&mut host, &mut out)?;
     assert_eq!(rt; host.shadow(1), EMPTY);
+    Ok(())
+}
+
+// The second send fails: its command stays in the ring, and its zone is Unknown until a report.
+#[test]
+fn a_send_that_fails_is_sent_again(rt: HostRuntime) -> Result<(), Fail> {
+    let alloc = rt.alloc();
+    let g = Geometry::new(FIELDS)?;
+    let link = FailLink::new(Solo::new(alloc, g, 16)?, vec![in alloc; 1]?);
+    let mut host = Host::new(alloc, link, g)?;
+    let mut out = [0; 128];
+    host.report(0)?;
+    assert!(rt; matches!(host.pump(&mut out), Ok(Some(done)) if done.cid == 0));
+    assert_eq!(rt; host.shadow(0), EMPTY);
+    host.open_window(0)?;
+    assert!(rt; matches!(host.pump(&mut out), Err(HostErr::LinkFault)));
+    assert_eq!(rt; host.shadow(0).stage, Stage::Unknown);
+    assert!(rt; matches!(host.pump(&mut out), Ok(Some(done)) if done.cid == 1));
+    assert_eq!(rt; host.shadow(0).stage, Stage::Unknown);
+    host.report(0)?;
+    assert!(rt; matches!(host.pump(&mut out), Ok(Some(done)) if done.cid == 2));
+    assert_eq!(rt; host.shadow(0), active(true, 0));
     Ok(())
 }
 

@@ -35,12 +35,12 @@ fn put_back(ring: &mut HeapCircularBuffer<Act>, queue: u16, sqe: Sqe, payload: B
 
 impl<L: Link> Host<L> {
     /// Sends the oldest command, once. Answers what the drive gave, with the bytes that the command
-    /// read in front of `out`, which has room for 128; or nothing where no command waits.
+    /// read at the start of `out`, which has room for 128; or nothing where no command waits.
     ///
-    /// Where the link fails, the command stays the oldest, and the zone that it is about is Unknown.
-    /// A torn or refused command leaves the ring; a torn one makes its zone Unknown, and a refused
-    /// one leaves the shadow as it was. Any other changes its zone's shadow as the drive changes the
-    /// zone.
+    /// Where the link fails, the command stays the oldest, and the zone that it is about is
+    /// Unknown. A torn or refused command leaves the ring; a torn one makes its zone Unknown, and a
+    /// refused one leaves the shadow as it was. Any other changes its zone's shadow as the drive
+    /// changes the zone.
     pub fn pump(&mut self, out: &mut [u8]) -> Result<Option<Done>, HostErr>
         requires room { 128 ≤ length out.old }
 

@@ -1,10 +1,11 @@
 use Rattle.std.proofs.Common.{◌<◌, length, ◌∙◌, sym, subst, List}
 use Rattle.cqe_codec.specs.declared.cqe.Cqe.{Cqe}
 use Rattle.solo_drive.specs.Drives.{act_of}
-use Rattle.host_library.proofs.Looping.{posts}
+use Rattle.host_library.proofs.Looping.{posts, neither}
 use Rattle.host_library.proofs.loop_link.LoopLinkLink.send.Goals as goal
 
 pub own_entry-entry-requires : goal.own_entry-entry-requires
 own_entry-entry-requires c =
     subst (λ (entries : List Cqe). 0 < length entries) (sym c.submit-posted.ensures.entries)
-    (posts c.args.self.now.drive (act_of c.args.queue c.args.sqe.now c.args.payload) (sym c.is_event_request.ensures ∙ c.if-is_event_request.false))
+    (posts c.args.self.now.drive (act_of c.args.queue c.args.sqe.now c.args.payload)
+    (neither _ _ (sym c.cannot_serve.ensures ∙ c.if-cannot_serve.false)))

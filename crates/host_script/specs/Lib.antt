@@ -1,0 +1,5 @@
+pub mod Lines
+pub mod Spelling
+pub mod ScriptRules
+pub mod Scripts
+pub mod Serving

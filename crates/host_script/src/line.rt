@@ -1,0 +1,84 @@
+ghost use Rattle.std.specs.Prelude.{◌≡◌, ◌≤◌};
+ghost use Rattle.host_script.specs.Lines.{IsLine, blocks_of, byte_of, data_len};
+
+use zns_types::Geometry;
+
+/// A line of a script: one command of a host. Data is so many blocks that repeat a byte.
+#[derive(Clone, Copy, Debug, PartialEq, Eq)]
+pub enum Line {
+    /// Write data from a block of the namespace on.
+    Write {
+        lba: u64,
+        blocks: u32,
+        byte: u8,
+    },
+
+    /// Append data to a zone.
+    Append {
+        zone: u32,
+        blocks: u32,
+        byte: u8,
+    },
+
+    /// Write data into a zone's random write area, from an offset in the zone on.
+    Put {
+        zone: u32,
+        offset: u64,
+        blocks: u32,
+        byte: u8,
+    },
+
+    /// Open a zone with a random write area.
+    Open {
+        zone: u32,
+    },
+
+    /// Commit a zone's random write area, up to the block at an offset.
+    Flush {
+        zone: u32,
+        last: u64,
+    },
+
+    /// Reset a zone.
+    Reset {
+        zone: u32,
+    },
+
+    /// Report a zone.
+    Report {
+        zone: u32,
+    },
+}
+
+impl Line {
+    // The blocks of its data.
+    fn blocks(self) -> u32
+        ensures { result ≡ blocks_of self }
+    {
+        match self {
+            Line::Write { blocks, .. } | Line::Append { blocks, .. } | Line::Put { blocks, .. } => {
+                blocks
+            }
+            _ => 0,
+        }
+    }
+
+    /// The byte that its data repeats.
+    pub fn byte(self) -> u8
+        ensures { result ≡ byte_of self }
+    {
+        match self {
+            Line::Write { byte, .. } | Line::Append { byte, .. } | Line::Put { byte, .. } => byte,
+            _ => 0,
+        }
+    }
+
+    /// The bytes of its data.
+    pub fn data_len(self, g: &Geometry) -> u32
+        requires { IsLine g.now.fields self }
+        ensures exact { result ≡ data_len g.now.fields self }
+        ensures few { result ≤ 268435456 }
+    {
+        self.blocks() * g.block_len()
+    }
+}

@@ -1,0 +1,3 @@
+pub mod SpelledNumbers
+pub mod Lines
+pub mod Words
