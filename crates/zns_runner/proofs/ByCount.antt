@@ -13,13 +13,15 @@ use Rattle.zns_runner.specs.Making.{MakesByCount}
 -- nothing is said of a task that reads
 pub reading_makes : (t : Task) (r : Result Bytes Status) → ¬ (MakesSession t) → MakesByCount t r
 reading_makes the_task.One r reading = tt
+reading_makes the_task.Run r reading = tt
 reading_makes the_task.Check r reading = tt
 reading_makes the_task.Show r reading = tt
+reading_makes the_task.Host r reading = tt
 reading_makes (the_task.Gen number count) r reading = absurd (reading tt)
 
--- the words ask for one task
+-- where the words ask for a session to be made, this is the task
 abbrev pub AskForOne : List (List ℕ) → Task → Type 0
-AskForOne words task = (t : Task) → AskFor words t → Some task ≡ Some t
+AskForOne words task = (number count : ℕ) → AskFor words (the_task.Gen number count) → Some task ≡ Some (the_task.Gen number count)
 
 made_for : (task t : Task) (r : Result Bytes Status) → Some task ≡ Some t → MakesByCount task r → MakesByCount t r
 made_for task t r both makes =
@@ -40,13 +42,13 @@ no_end output t r made ended = absurd cc
 -- a run that made no output
 pub ended_by_count : (words : List (List ℕ)) (task : Task) (s : Status) → AskForOne words task → MakesByCount task (Err s) → GoesByCount words s
 ended_by_count words task s one makes = λ number count asked.
-    let made = made_for task (the_task.Gen number count) (Err s) (one (the_task.Gen number count) asked) makes in
+    let made = made_for task (the_task.Gen number count) (Err s) (one number count asked) makes in
     (λ told. made.0 (ap end told), λ many. status_of_end s (status.TooLarge which.Commands count) (made.1 many))
 
 -- a run that made one, and ended otherwise
 pub made_by_count : (words : List (List ℕ)) (task : Task) (output : Bytes) (s : Status) → AskForOne words task → MakesByCount task (Ok output) → ((count : ℕ) → s ≡ status.TooLarge which.Commands count → ⊥) → GoesByCount words s
 made_by_count words task output s one makes other = λ number count asked.
-    let made = made_for task (the_task.Gen number count) (Ok output) (one (the_task.Gen number count) asked) makes in
+    let made = made_for task (the_task.Gen number count) (Ok output) (one number count asked) makes in
     (λ told. absurd (other count told), λ many. absurd (no_end output (status.TooLarge which.Commands count) (Ok output) refl (made.1 many)))
 
 -- a run without a task

@@ -12,11 +12,11 @@ use Rattle.zns_runner.specs.declared.task.Task.{Task}
 use Rattle.zns_runner.specs.declared.task.Task.TheVariants as the_task
 use Rattle.zns_runner.specs.Differences.{first_difference}
 use Rattle.zns_runner.specs.Checking.{HasResult, IsSame, IsUnlike}
-use Rattle.zns_runner.specs.Inputs.{session_rows, checked_rows, made_rows, SpellsSession}
+use Rattle.zns_runner.specs.Inputs.{session_rows, checked_rows, host_rows, made_rows, SpellsSession}
 use Rattle.zns_runner.specs.Outcomes.{CallsFor}
 use Rattle.zns_runner.specs.Making.{status_of}
 use Rattle.zns_runner.proofs.Comparisons.{first_difference-same}
-use Rattle.zns_runner.proofs.Inputs.{unbroken, made_unbroken, IsRead, is_read}
+use Rattle.zns_runner.proofs.Inputs.{unbroken, script_unbroken, made_unbroken, IsRead, is_read}
 
 -- the answer by a first difference
 abbrev by_difference : Option ℕ → Status
@@ -39,8 +39,10 @@ difference_in bytes = difference (session_in bytes) (session_end bytes) (drop (s
 -- the one answer
 abbrev called : Task → List ℕ → Status
 called the_task.One bytes = by_rule (first_holding (session_rows bytes)) status.Ok
+called the_task.Run bytes = by_rule (first_holding (session_rows bytes)) status.Ok
 called the_task.Check bytes = by_rule (first_holding (checked_rows bytes)) (by_difference (difference_in bytes))
 called the_task.Show bytes = by_rule (first_holding (session_rows bytes)) status.Ok
+called the_task.Host bytes = by_rule (first_holding (host_rows bytes)) status.Ok
 called (the_task.Gen number count) bytes = by_rule (first_holding (made_rows count)) status.Ok
 
 spelled_called : (bytes : List ℕ) → SpellsSession bytes → status.Ok ≡ by_rule (first_holding (session_rows bytes)) status.Ok
@@ -73,24 +75,32 @@ refusal_called rule e s is = ap (λ r. by_rule r s) (sym is)
 -- what an input calls for is the one answer
 is_called : (t : Task) (bytes : List ℕ) (answer : Status) → CallsFor t bytes answer → answer ≡ called t bytes
 is_called the_task.One bytes status.Ok calls = spelled_called bytes calls
+is_called the_task.Run bytes status.Ok calls = spelled_called bytes calls
 is_called the_task.Check bytes status.Ok calls = same_called bytes calls
 is_called the_task.Show bytes status.Ok calls = spelled_called bytes calls
+is_called the_task.Host bytes status.Ok calls = ap (λ rule. by_rule rule status.Ok) (sym (script_unbroken bytes calls))
 is_called (the_task.Gen number count) bytes status.Ok calls = ap (λ rule. by_rule rule status.Ok) (sym (made_unbroken count calls))
 is_called t bytes status.NoMemory calls = absurd calls
 is_called t bytes status.Usage calls = absurd calls
 is_called t bytes status.ReadFault calls = absurd calls
 is_called t bytes status.WriteFault calls = absurd calls
 is_called the_task.One bytes (status.BadFile reason offset) calls = refusal_called _ (Bad reason offset) _ calls
+is_called the_task.Run bytes (status.BadFile reason offset) calls = refusal_called _ (Bad reason offset) _ calls
 is_called the_task.Check bytes (status.BadFile reason offset) calls = refusal_called _ (Bad reason offset) _ calls
 is_called the_task.Show bytes (status.BadFile reason offset) calls = refusal_called _ (Bad reason offset) _ calls
+is_called the_task.Host bytes (status.BadFile reason offset) calls = refusal_called _ (Bad reason offset) _ calls
 is_called (the_task.Gen number count) bytes (status.BadFile reason offset) calls = refusal_called _ (Bad reason offset) _ calls
 is_called the_task.One bytes (status.TooLarge which number) calls = refusal_called _ (Large which number) _ calls
+is_called the_task.Run bytes (status.TooLarge which number) calls = refusal_called _ (Large which number) _ calls
 is_called the_task.Check bytes (status.TooLarge which number) calls = refusal_called _ (Large which number) _ calls
 is_called the_task.Show bytes (status.TooLarge which number) calls = refusal_called _ (Large which number) _ calls
+is_called the_task.Host bytes (status.TooLarge which number) calls = refusal_called _ (Large which number) _ calls
 is_called (the_task.Gen from count) bytes (status.TooLarge which number) calls = refusal_called _ (Large which number) _ calls
 is_called the_task.One bytes (status.Differs offset) calls = absurd calls
+is_called the_task.Run bytes (status.Differs offset) calls = absurd calls
 is_called the_task.Check bytes (status.Differs offset) calls = unlike_called bytes offset calls
 is_called the_task.Show bytes (status.Differs offset) calls = absurd calls
+is_called the_task.Host bytes (status.Differs offset) calls = absurd calls
 is_called (the_task.Gen number count) bytes (status.Differs offset) calls = absurd calls
 
 -- so there is one

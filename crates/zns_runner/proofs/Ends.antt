@@ -62,8 +62,10 @@ same_output task t left now output both is =
 -- an input of which an output was made is one that the task takes
 taken : (t : Task) (input output : List ℕ) → IsOutputFor t input output → CallsFor t input status.Ok
 taken the_task.One input output is = record { session = is.session; valid = is.valid; spelled = is.spelled }
+taken the_task.Run input output is = record { session = is.session; valid = is.valid; spelled = is.spelled }
 taken the_task.Check input output is = is.same
 taken the_task.Show input output is = record { session = is.session; valid = is.valid; spelled = is.spelled }
+taken the_task.Host input output is = record { script = is.script; valid = is.valid; spelled = is.spelled }
 taken (the_task.Gen number count) input output is = is.few
 
 -- what was read whole is what was told
@@ -76,8 +78,10 @@ all_told t (Some all) now input bytes told read calls =
 
 read_told : (t : Task) (left now : Option (List ℕ)) (input bytes : List ℕ) → input_of t left ≡ Some bytes → Reads t left now input → CallsFor t input status.Ok → CallsFor t bytes status.Ok
 read_told the_task.One left now input bytes told read calls = all_told the_task.One left now input bytes told read calls
+read_told the_task.Run left now input bytes told read calls = all_told the_task.Run left now input bytes told read calls
 read_told the_task.Check left now input bytes told read calls = all_told the_task.Check left now input bytes told read calls
 read_told the_task.Show left now input bytes told read calls = all_told the_task.Show left now input bytes told read calls
+read_told the_task.Host left now input bytes told read calls = all_told the_task.Host left now input bytes told read calls
 read_told (the_task.Gen number count) left now input bytes told read calls = calls
 
 -- what was refused is what was told

@@ -24,13 +24,16 @@ use Rattle.session_file.proofs.Firsts.{first_of-front, first_of-back}
 use Rattle.session_file.proofs.Fronts.{BeginsWith, begins_with}
 use Rattle.session_file.proofs.OrderFronts.{IsOrderOf, is_order_of}
 use Rattle.session_file.proofs.Spelled.{spelled_unbroken}
+use Rattle.host_script.specs.ScriptRules.{script_rows}
+use Rattle.host_script.proofs.Fronts.{IsWhole, is_whole, script_passed}
+use Rattle.host_script.proofs.TextSizes.{script_size}
 use Rattle.zns_runner.proofs.Sizes.{spelled_size}
 use Rattle.zns_runner.specs.declared.status.Status.TheVariants as status
 use Rattle.zns_runner.specs.declared.task.Task.{Task}
 use Rattle.zns_runner.specs.declared.task.Task.TheVariants as the_task
 use Rattle.zns_runner.specs.Tasks.{MakesSession}
 use Rattle.zns_runner.specs.Checking.{HasResult, bytes_after_order}
-use Rattle.zns_runner.specs.Inputs.{input_row, session_rows, checked_rows, made_rows, input_of, Reads}
+use Rattle.zns_runner.specs.Inputs.{input_row, session_rows, checked_rows, host_rows, made_rows, SpellsScript, input_of, Reads}
 use Rattle.zns_runner.specs.Outcomes.{CallsForOf}
 use Rattle.zns_runner.specs.Making.{status_of, IsCause, GivesInput}
 
@@ -48,28 +51,26 @@ long_input bytes rows many =
     rw long refl
 
 -- one that is too long breaks the first rule
-too_long : (t : Task) (left : Option (List ℕ)) → ¬ (MakesSession t) → IsByLimit left (2 ^ 29) (Err errors.Over) → CallsForOf t (input_of t left) (status.TooLarge which.Input (2 ^ 29 + 1))
+pub too_long : (t : Task) (left : Option (List ℕ)) → ¬ (MakesSession t) → IsByLimit left (2 ^ 29) (Err errors.Over) → CallsForOf t (input_of t left) (status.TooLarge which.Input (2 ^ 29 + 1))
 too_long the_task.One None reading over = tt
+too_long the_task.Run None reading over = tt
 too_long the_task.One (Some told) reading over = long_input told (file_rows told) over
+too_long the_task.Run (Some told) reading over = long_input told (file_rows told) over
 too_long the_task.Check None reading over = tt
 too_long the_task.Check (Some told) reading over = long_input told (front_rows told ++ result_rows told (session_end told) (session_in told).acts) over
 too_long the_task.Show None reading over = tt
 too_long the_task.Show (Some told) reading over = long_input told (file_rows told) over
+too_long the_task.Host None reading over = tt
+too_long the_task.Host (Some told) reading over = long_input told (script_rows told) over
 too_long (the_task.Gen number count) left reading over = absurd (reading tt)
 
-reads : (t : Task) (left now : Option (List ℕ)) (input : List ℕ) → ¬ (MakesSession t) → ReadsAll left now input → Reads t left now input
+pub reads : (t : Task) (left now : Option (List ℕ)) (input : List ℕ) → ¬ (MakesSession t) → ReadsAll left now input → Reads t left now input
 reads the_task.One left now input reading all = all
+reads the_task.Run left now input reading all = all
 reads the_task.Check left now input reading all = all
 reads the_task.Show left now input reading all = all
+reads the_task.Host left now input reading all = all
 reads (the_task.Gen number count) left now input reading all = absurd (reading tt)
-
--- what is read of a source is the input of a task that reads
-pub gives_input : (t : Task) (left now : Option (List ℕ)) (faults faults_now : ℕ) (r : Result Bytes ReadErr) → ¬ (MakesSession t) → IfOk r (ReadsAll left now) → IfOk r (λ bytes. length bytes ≤ 2 ^ 29) → IsByLimit left (2 ^ 29) r
-    → ReadsFrontUpTo left now (2 ^ 29 + 1) → (IsErrOf r errors.Failed → Rose faults faults_now) → GivesInput t left now faults faults_now r
-gives_input t left now faults faults_now (Ok input) reading all short limit front fault = record { read = reads t left now input reading all; short = short; front = front }
-gives_input t left now faults faults_now (Err errors.NoMemory) reading all short limit front fault = front
-gives_input t left now faults faults_now (Err errors.Failed) reading all short limit front fault = (front, fault refl)
-gives_input t left now faults faults_now (Err errors.Over) reading all short limit front fault = record { cause = too_long t left reading limit; read = front }
 
 -- nothing was read of a source that stayed
 pub none_read : (left : Option (List ℕ)) (most : ℕ) → ReadsFrontUpTo left left most
@@ -104,10 +105,29 @@ one_cause input NoMemory few first = tt
 one_cause input (Bad reason offset) few first = short_input input (file_rows input) few ∙ first
 one_cause input (Large which number) few first = short_input input (file_rows input) few ∙ first
 
+pub run_cause : (input : List ℕ) (e : FileErr) → length input ≤ 2 ^ 29 → IsFirstOf (file_rows input) e → IsCause the_task.Run input (status_of e)
+run_cause input NoMemory few first = tt
+run_cause input (Bad reason offset) few first = short_input input (file_rows input) few ∙ first
+run_cause input (Large which number) few first = short_input input (file_rows input) few ∙ first
+
 pub show_cause : (input : List ℕ) (e : FileErr) → length input ≤ 2 ^ 29 → IsFirstOf (file_rows input) e → IsCause the_task.Show input (status_of e)
 show_cause input NoMemory few first = tt
 show_cause input (Bad reason offset) few first = short_input input (file_rows input) few ∙ first
 show_cause input (Large which number) few first = short_input input (file_rows input) few ∙ first
+
+-- ---- scripts
+
+-- the text of a script breaks no rule
+pub script_unbroken : (bytes : List ℕ) → SpellsScript bytes → first_holding (host_rows bytes) ≡ None
+script_unbroken bytes is =
+    let few : length bytes ≤ 2 ^ 29 = rw is.spelled (script_size is.script is.valid) in
+    let whole : IsWhole bytes is.script = is_whole bytes is.script is.valid is.spelled in
+    short_input bytes (script_rows bytes) few ∙ script_passed bytes whole.header whole.host whole.rest
+
+pub host_cause : (input : List ℕ) (e : FileErr) → length input ≤ 2 ^ 29 → IsFirstOf (script_rows input) e → IsCause the_task.Host input (status_of e)
+host_cause input NoMemory few first = tt
+host_cause input (Bad reason offset) few first = short_input input (script_rows input) few ∙ first
+host_cause input (Large which number) few first = short_input input (script_rows input) few ∙ first
 
 -- ---- results
 

@@ -17,8 +17,10 @@ all_told t (Some before) now input s read calls = let P : List ℕ → Type 0 = 
 
 told : (t : Task) (left now : Option (List ℕ)) (input : List ℕ) (s : Status) → Reads t left now input → CallsFor t input s → CallsForOf t (input_of t left) s
 told the_task.One left now input s read calls = all_told the_task.One left now input s read calls
+told the_task.Run left now input s read calls = all_told the_task.Run left now input s read calls
 told the_task.Check left now input s read calls = all_told the_task.Check left now input s read calls
 told the_task.Show left now input s read calls = all_told the_task.Show left now input s read calls
+told the_task.Host left now input s read calls = all_told the_task.Host left now input s read calls
 told (the_task.Gen number count) left now input s read calls = let P : List ℕ → Type 0 = λ bytes. CallsFor (the_task.Gen number count) bytes s in subst P read.1 calls
 
 refused : (t : Task) (left now : Option (List ℕ)) (input : List ℕ) (s : Status) → Reads t left now input → ReadsFrontUpTo left now (2 ^ 29 + 1) → CallsFor t input s → IsRefused t left now s

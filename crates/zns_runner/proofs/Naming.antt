@@ -6,14 +6,16 @@ use Rattle.std.specs.Fmt.{decimal}
 use Rattle.std.specs.Str.{bytes_eq}
 use Rattle.zns_runner.specs.declared.task.Task.{Task}
 use Rattle.zns_runner.specs.declared.task.Task.TheVariants as the_task
-use Rattle.zns_runner.specs.Decimals.{number_in}
+use Rattle.text_lines.specs.Decimals.{number_in}
 use Rattle.zns_runner.specs.Tasks.{words_for, HasNumbers, AskFor, gen_of, task_named}
-use Rattle.zns_runner.proofs.SpelledNumbers.{number_in-spelled, number_in-decimal}
+use Rattle.text_lines.proofs.SpelledNumbers.{number_in-spelled, number_in-decimal}
 
 pub words_name : (t : Task) → HasNumbers t → task_named (words_for t) ≡ Some t
 words_name the_task.One has = refl
+words_name the_task.Run has = refl
 words_name the_task.Check has = refl
 words_name the_task.Show has = refl
+words_name the_task.Host has = refl
 words_name (the_task.Gen number count) has = rw (number_in-decimal (decimal number) number refl has.0, number_in-decimal (decimal count) count refl has.1) refl
 
 -- words that ask for a task ask for an equal one
@@ -25,12 +27,14 @@ ask_for words found t asked named = let is : found ≡ t = cc in subst (AskFor w
 its_word : (word text : List ℕ) (found : Task) → bytes_eq word text ≡ true → text ∷ [] ≡ words_for found → HasNumbers found → AskFor (word ∷ []) found
 its_word word text found same is has = record { same = cc ((bytes_eq-Decides word text).0 same); numbers = has }
 
-by_word : (word : List ℕ) (t : Task) (one check show : Bool) → bytes_eq word (codes "one") ≡ one → bytes_eq word (codes "check") ≡ check → bytes_eq word (codes "show") ≡ show
-    → (if one then Some the_task.One else if check then Some the_task.Check else if show then Some the_task.Show else None) ≡ Some t → AskFor (word ∷ []) t
-by_word word t true check show is_one is_check is_show named = ask_for (word ∷ []) the_task.One t (its_word word (codes "one") the_task.One is_one refl tt) named
-by_word word t false true show is_one is_check is_show named = ask_for (word ∷ []) the_task.Check t (its_word word (codes "check") the_task.Check is_check refl tt) named
-by_word word t false false true is_one is_check is_show named = ask_for (word ∷ []) the_task.Show t (its_word word (codes "show") the_task.Show is_show refl tt) named
-by_word word t false false false is_one is_check is_show named = absurd cc
+by_word : (word : List ℕ) (t : Task) (one run check show host : Bool) → bytes_eq word (codes "one") ≡ one → bytes_eq word (codes "run") ≡ run → bytes_eq word (codes "check") ≡ check → bytes_eq word (codes "show") ≡ show → bytes_eq word (codes "host") ≡ host
+    → (if one then Some the_task.One else if run then Some the_task.Run else if check then Some the_task.Check else if show then Some the_task.Show else if host then Some the_task.Host else None) ≡ Some t → AskFor (word ∷ []) t
+by_word word t true run check show host is_one is_run is_check is_show is_host named = ask_for (word ∷ []) the_task.One t (its_word word (codes "one") the_task.One is_one refl tt) named
+by_word word t false true check show host is_one is_run is_check is_show is_host named = ask_for (word ∷ []) the_task.Run t (its_word word (codes "run") the_task.Run is_run refl tt) named
+by_word word t false false true show host is_one is_run is_check is_show is_host named = ask_for (word ∷ []) the_task.Check t (its_word word (codes "check") the_task.Check is_check refl tt) named
+by_word word t false false false true host is_one is_run is_check is_show is_host named = ask_for (word ∷ []) the_task.Show t (its_word word (codes "show") the_task.Show is_show refl tt) named
+by_word word t false false false false true is_one is_run is_check is_show is_host named = ask_for (word ∷ []) the_task.Host t (its_word word (codes "host") the_task.Host is_host refl tt) named
+by_word word t false false false false false is_one is_run is_check is_show is_host named = absurd cc
 
 -- ---- a word and two numbers
 
@@ -54,7 +58,7 @@ by_numbers word number count t false n c is_gen is_n is_c named = absurd cc
 
 pub names_its_words : (words : List (List ℕ)) (t : Task) → task_named words ≡ Some t → AskFor words t
 names_its_words [] t named = absurd cc
-names_its_words (word ∷ []) t named = by_word word t _ _ _ refl refl refl named
+names_its_words (word ∷ []) t named = by_word word t _ _ _ _ _ refl refl refl refl refl named
 names_its_words (word ∷ other ∷ []) t named = absurd cc
 names_its_words (word ∷ number ∷ count ∷ []) t named = by_numbers word number count t _ _ _ refl refl refl named
 names_its_words (word ∷ number ∷ count ∷ other ∷ words) t named = absurd cc

@@ -19,7 +19,6 @@ use Rattle.zone_model.proofs.ExampleDrive as act
 use Rattle.zns_runner.specs.Showing.{shown}
 use Rattle.zns_runner.specs.Summaries.{summary}
 use Rattle.zns_runner.specs.Generating.{next, made_command, made_act, made_acts, made}
-use Rattle.zns_runner.specs.Scripts.{write, append, put, open_window, flush_to, reset, report, scripted}
 
 -- a session of one Write
 abbrev pub one_write : Recorded
@@ -64,15 +63,3 @@ made_from_1-bytes : map (λ (a : Act). a.payload) made_from_1
     ≡ filled 1 230 ∷ filled 1 246 ∷ filled 1 242 ∷ filled 1 12 ∷ [] ∷ [] ∷ filled 1 160 ∷ filled 1 18 ∷ []
 unfolding next made_command made_act
 made_from_1-bytes = refl
-
--- a window is opened, written and flushed; an append to it is refused; and the zone is reset
-windowed-scripted : scripted drive (open_window 0 ∷ put 0 0 4 17 ∷ flush_to 0 3 ∷ report 0 ∷ append 0 1 5 ∷ reset 0 ∷ report 0 ∷ [])
-    ≡ codes "ok" ++ 10 ∷ codes "ok" ++ 10 ∷ codes "ok" ++ 10 ∷ codes "0 3 1 4" ++ 10 ∷ codes "refused 1 b6" ++ 10 ∷ codes "ok" ++ 10 ∷ codes "0 1 0 0" ++ 10 ∷ []
-unfolding io_command admin_command deeds pointer_since state_of window_of block_of attributes_of counted closed_zones had_excursion cleared waited changed_zone changed enabled masked pending waiting status evicted zone_deed fires answer answered_back answered acts_on entries_on dwords_of posted reply_bytes digits encode_with scripted
-windowed-scripted = refl
-
--- an append tells its first block, a full zone has no pointer, and generic codes are refused with type 0
-appended-scripted : scripted drive (append 1 47 9 ∷ append 1 1 9 ∷ report 1 ∷ write 256 1 7 ∷ write 128 2 7 ∷ report 2 ∷ [])
-    ≡ codes "ok 64" ++ 10 ∷ codes "ok 111" ++ 10 ∷ codes "1 e 0 -" ++ 10 ∷ codes "refused 0 80" ++ 10 ∷ codes "ok" ++ 10 ∷ codes "2 2 0 2" ++ 10 ∷ []
-unfolding io_command admin_command deeds pointer_since state_of window_of block_of attributes_of counted closed_zones had_excursion cleared waited changed_zone changed enabled masked pending waiting status evicted zone_deed fires answer answered_back answered acts_on entries_on dwords_of posted reply_bytes digits encode_with scripted
-appended-scripted = refl

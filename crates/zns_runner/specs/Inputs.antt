@@ -7,6 +7,8 @@ use Rattle.session_file.specs.declared.file_err.FileErr.{FileErr}
 use Rattle.session_file.specs.FileRules.{large, front_rows, file_rows}
 use Rattle.session_file.specs.Orders.{result_rows}
 use Rattle.session_file.specs.Places.{session_in, session_end}
+use Rattle.host_script.specs.Spelling.{Scripted, IsScript, script_text}
+use Rattle.host_script.specs.ScriptRules.{script_rows}
 use Rattle.zns_runner.specs.declared.task.Task.{Task}
 use Rattle.zns_runner.specs.declared.task.Task.TheVariants as the_task
 use Rattle.zns_io.specs.Reading.{ReadsAll}
@@ -17,15 +19,19 @@ use Rattle.zns_runner.specs.Checking.{IsSame, IsUnlike}
 -- What a task takes of the bytes that a source still has, where it tells them: all of them, or none where it reads nothing.
 abbrev pub input_of : Task → Option (List ℕ) → Option (List ℕ)
 input_of the_task.One left = left
+input_of the_task.Run left = left
 input_of the_task.Check left = left
 input_of the_task.Show left = left
+input_of the_task.Host left = left
 input_of (the_task.Gen number count) left = Some []
 
 -- The source was read to its end, and these bytes are all of it. With `gen` nothing was read.
 abbrev pub Reads : Task → Option (List ℕ) → Option (List ℕ) → List ℕ → Type 0
 Reads the_task.One left now input = ReadsAll left now input
+Reads the_task.Run left now input = ReadsAll left now input
 Reads the_task.Check left now input = ReadsAll left now input
 Reads the_task.Show left now input = ReadsAll left now input
+Reads the_task.Host left now input = ReadsAll left now input
 Reads (the_task.Gen number count) left now input = (now ≡ left) × (input ≡ [])
 
 -- ---- what it takes
@@ -42,6 +48,10 @@ session_rows bytes = input_row bytes ∷ file_rows bytes
 abbrev pub checked_rows : List ℕ → List (Row FileErr)
 checked_rows bytes = input_row bytes ∷ (front_rows bytes ++ result_rows bytes (session_end bytes) (session_in bytes).acts)
 
+-- the rules of a script
+abbrev pub host_rows : List ℕ → List (Row FileErr)
+host_rows bytes = input_row bytes ∷ script_rows bytes
+
 -- the rule of a session that is made: it has at most 262,144 commands
 abbrev pub made_rows : ℕ → List (Row FileErr)
 made_rows count = large which.Commands count (nat_lt 262144 count) ∷ []
@@ -49,8 +59,10 @@ made_rows count = large which.Commands count (nat_lt 262144 count) ∷ []
 -- the rules of what a task takes, in their order
 abbrev pub rules_for : Task → List ℕ → List (Row FileErr)
 rules_for the_task.One bytes = session_rows bytes
+rules_for the_task.Run bytes = session_rows bytes
 rules_for the_task.Check bytes = checked_rows bytes
 rules_for the_task.Show bytes = session_rows bytes
+rules_for the_task.Host bytes = host_rows bytes
 rules_for (the_task.Gen number count) bytes = made_rows count
 
 -- the input is refused with the first rule that it breaks
@@ -63,17 +75,27 @@ pub record SpellsSession (bytes : List ℕ) : Type 0 where
   pub valid : IsSession session
   pub spelled : spells session bytes
 
--- The inputs of which a task makes an output: every session, and for a check every session with its result. A session that
--- is made goes by its number of commands alone.
+-- the bytes spell a script
+pub record SpellsScript (bytes : List ℕ) : Type 0 where
+  pub script : Scripted
+  pub valid : IsScript script
+  pub spelled : bytes ≡ script_text script
+
+-- The inputs of which a task makes an output: every session, for a check every session with its result, and for a host
+-- every script. A session that is made goes by its number of commands alone.
 abbrev pub IsTaken : Task → List ℕ → Type 0
 IsTaken the_task.One bytes = SpellsSession bytes
+IsTaken the_task.Run bytes = SpellsSession bytes
 IsTaken the_task.Check bytes = IsSame bytes
 IsTaken the_task.Show bytes = SpellsSession bytes
+IsTaken the_task.Host bytes = SpellsScript bytes
 IsTaken (the_task.Gen number count) bytes = count ≤ 262144
 
 -- the offset at which a result is found to be another: only a check looks for it
 abbrev pub IsFound : Task → List ℕ → ℕ → Type 0
 IsFound the_task.One bytes offset = ⊥
+IsFound the_task.Run bytes offset = ⊥
 IsFound the_task.Check bytes offset = IsUnlike bytes offset
 IsFound the_task.Show bytes offset = ⊥
+IsFound the_task.Host bytes offset = ⊥
 IsFound (the_task.Gen number count) bytes offset = ⊥

@@ -1,14 +1,11 @@
-pub mod Texts
 pub mod Showing
 pub mod Summaries
 pub mod Generating
-pub mod Scripts
 pub mod Sessions
 pub mod Serving
 pub mod Queues
 pub mod Differences
 pub mod Checking
-pub mod Decimals
 pub mod Tasks
 pub mod Inputs
 pub mod Outputs
@@ -18,3 +15,4 @@ pub mod Numbers
 pub mod Words
 pub mod Edges
 pub mod Lines
+pub mod Runs

@@ -10,7 +10,7 @@ use Rattle.zns_runner.specs.declared.status.Status.TheVariants as status
 abbrev pub line_of : Status → List ℕ
 line_of status.Ok = []
 line_of status.NoMemory = codes "zns_runner: no memory" ++ 10 ∷ []
-line_of status.Usage = codes "zns_runner: usage: one, check, show, gen NUMBER COUNT" ++ 10 ∷ []
+line_of status.Usage = codes "zns_runner: usage: one, run, check, show, host, gen NUMBER COUNT" ++ 10 ∷ []
 line_of status.ReadFault = codes "zns_runner: read fault" ++ 10 ∷ []
 line_of status.WriteFault = codes "zns_runner: write fault" ++ 10 ∷ []
 line_of (status.BadFile reason offset) = codes "zns_runner: bad file: " ++ reason_text reason ++ codes " at " ++ decimal offset ++ 10 ∷ []

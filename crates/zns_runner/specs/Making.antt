@@ -2,9 +2,9 @@
 use Rattle.std.specs.Prelude.{◌≡◌, ℕ, ◌+◌, ◌<◌, ◌≤◌, ◌^◌, ◌↔◌, List, length, Option, Result, Ok, Err, ⊤}
 use Rattle.zns_io.specs.declared.bytes.Bytes.{Bytes}
 use Rattle.zns_io.specs.Faults.{Rose}
-use Rattle.zns_io.specs.declared.read_err.ReadErr.{ReadErr}
-use Rattle.zns_io.specs.declared.read_err.ReadErr.TheVariants as errors
+use Rattle.zns_io.specs.Told.{Gains}
 use Rattle.zns_io.specs.Reading.{ReadsFrontUpTo}
+use Rattle.zns_io.specs.Writing.{GainsPrefix}
 use Rattle.session_file.specs.declared.file_err.FileErr.{FileErr}
 use Rattle.session_file.specs.declared.file_err.FileErr.TheVariants.{NoMemory, Bad, Large}
 use Rattle.session_file.specs.declared.file_err.Which.TheVariants as which
@@ -48,8 +48,10 @@ Makes t input (Err s) = IsCause t input s
 -- a session is not made exactly where it would have too many commands
 abbrev pub MakesByCount : Task → Result Bytes Status → Type 0
 MakesByCount the_task.One result = ⊤
+MakesByCount the_task.Run result = ⊤
 MakesByCount the_task.Check result = ⊤
 MakesByCount the_task.Show result = ⊤
+MakesByCount the_task.Host result = ⊤
 MakesByCount (the_task.Gen number count) result = (result ≡ Err (status.TooLarge which.Commands count)) ↔ (262144 < count)
 
 -- ---- what a source gives
@@ -65,13 +67,6 @@ pub record IsRefused (t : Task) (left now : Option (List ℕ)) (s : Status) : Ty
   pub cause : CallsForOf t (input_of t left) s
   pub read : ReadsFrontUpTo left now (2 ^ 29 + 1)
 
--- the input of a task, or why it has none
-abbrev pub GivesInput : Task → Option (List ℕ) → Option (List ℕ) → ℕ → ℕ → Result Bytes ReadErr → Type 0
-GivesInput t left now faults faults_now (Ok input) = IsInput t left now input
-GivesInput t left now faults faults_now (Err errors.NoMemory) = ReadsFrontUpTo left now (2 ^ 29 + 1)
-GivesInput t left now faults faults_now (Err errors.Failed) = ReadsFrontUpTo left now (2 ^ 29 + 1) × Rose faults faults_now
-GivesInput t left now faults faults_now (Err errors.Over) = IsRefused t left now (status.TooLarge which.Input (2 ^ 29 + 1))
-
 -- how a run ends that makes no output
 abbrev pub EndsBefore : Task → Option (List ℕ) → Option (List ℕ) → ℕ → ℕ → Status → Type 0
 EndsBefore t left now faults faults_now status.Ok = ⊥
@@ -83,6 +78,11 @@ EndsBefore t left now faults faults_now (status.BadFile reason offset) = IsRefus
 EndsBefore t left now faults faults_now (status.TooLarge which number) = IsRefused t left now (status.TooLarge which number)
 EndsBefore t left now faults faults_now (status.Differs offset) = IsRefused t left now (status.Differs offset)
 
+-- the input of a task, or how the run ends without it
+abbrev pub GivesInput : Task → Option (List ℕ) → Option (List ℕ) → ℕ → ℕ → Result Bytes Status → Type 0
+GivesInput t left now faults faults_now (Ok input) = IsInput t left now input
+GivesInput t left now faults faults_now (Err s) = EndsBefore t left now faults faults_now s
+
 -- the task read what it takes, and this is what it makes of it
 pub record IsOutputOf (t : Task) (left now : Option (List ℕ)) (output : List ℕ) : Type 0 where
   pub input : List ℕ
@@ -93,3 +93,15 @@ pub record IsOutputOf (t : Task) (left now : Option (List ℕ)) (output : List �
 abbrev pub GivesOutput : Task → Option (List ℕ) → Option (List ℕ) → ℕ → ℕ → Result Bytes Status → Type 0
 GivesOutput t left now faults faults_now (Ok output) = IsOutputOf t left now output
 GivesOutput t left now faults faults_now (Err s) = EndsBefore t left now faults faults_now s
+
+-- How a run ends that made an output, or did not: the output was written, or a write failed; or nothing was written.
+abbrev pub EndsBy : Result Bytes Status → Option (List ℕ) → Option (List ℕ) → ℕ → ℕ → Status → Type 0
+EndsBy (Ok output) taken now faults faults_now status.Ok = Gains taken now output
+EndsBy (Ok output) taken now faults faults_now status.NoMemory = ⊥
+EndsBy (Ok output) taken now faults faults_now status.Usage = ⊥
+EndsBy (Ok output) taken now faults faults_now status.ReadFault = ⊥
+EndsBy (Ok output) taken now faults faults_now status.WriteFault = GainsPrefix taken now output × Rose faults faults_now
+EndsBy (Ok output) taken now faults faults_now (status.BadFile reason offset) = ⊥
+EndsBy (Ok output) taken now faults faults_now (status.TooLarge which number) = ⊥
+EndsBy (Ok output) taken now faults faults_now (status.Differs offset) = ⊥
+EndsBy (Err s) taken now faults faults_now ended = (ended ≡ s) × (now ≡ taken) × (faults_now ≡ faults)

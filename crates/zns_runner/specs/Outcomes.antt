@@ -10,7 +10,7 @@ use Rattle.zns_runner.specs.declared.status.Status.{Status}
 use Rattle.zns_runner.specs.declared.status.Status.TheVariants as status
 use Rattle.zns_runner.specs.declared.task.Task.{Task}
 use Rattle.zns_runner.specs.declared.task.Task.TheVariants as the_task
-use Rattle.zns_runner.specs.Tasks.{AskFor}
+use Rattle.zns_runner.specs.Tasks.{AskFor, IsPlain}
 use Rattle.zns_runner.specs.Outputs.{IsOutputFor}
 use Rattle.zns_runner.specs.Inputs.{input_of, Reads, IsTaken, IsRefusal, IsFound}
 
@@ -86,11 +86,19 @@ Means words before now (status.BadFile reason offset) = Refuses words before now
 Means words before now (status.TooLarge which number) = Refuses words before now (status.TooLarge which number)
 Means words before now (status.Differs offset) = Refuses words before now (status.Differs offset)
 
--- Where neither count rises, the answer is the one that the input calls for, unless memory runs out.
-abbrev pub IsComplete : List (List ℕ) → Streams → Streams → Status → Type 0
-IsComplete words before now result = (t : Task) (bytes : List ℕ) (answer : Status) → AskFor words t → input_of t before.left ≡ Some bytes → CallsFor t bytes answer
+-- Where neither count rises, the answer to a task is the one that its input calls for, unless memory runs out.
+abbrev pub IsAnswered : Task → List (List ℕ) → Streams → Streams → Status → Type 0
+IsAnswered t words before now result = (bytes : List ℕ) (answer : Status) → AskFor words t → input_of t before.left ≡ Some bytes → CallsFor t bytes answer
     → ¬ (Rose before.source_faults now.source_faults) → ¬ (Rose before.sink_faults now.sink_faults)
     → (result ≡ answer) ⊎ (result ≡ status.NoMemory)
+
+-- So it is with every task,
+abbrev pub IsComplete : List (List ℕ) → Streams → Streams → Status → Type 0
+IsComplete words before now result = (t : Task) → IsAnswered t words before now result
+
+-- or with those that need no threads.
+abbrev pub IsPlainComplete : List (List ℕ) → Streams → Streams → Status → Type 0
+IsPlainComplete words before now result = (t : Task) → IsPlain t → IsAnswered t words before now result
 
 -- A session that would have too many commands isn't made, and that comes before all else.
 abbrev pub GoesByCount : List (List ℕ) → Status → Type 0

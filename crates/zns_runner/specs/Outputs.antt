@@ -2,14 +2,17 @@
 use Rattle.std.specs.Prelude.{◌≡◌, ℕ, ◌≤◌, List, [], ◌∷◌, codes}
 use Rattle.zone_model.specs.Laws.{IsKept}
 use Rattle.zone_model.specs.Sessions.{Recorded, IsSession, spells, merge, own_order}
+use Rattle.host_script.specs.Spelling.{Scripted, IsScript, script_text}
+use Rattle.host_script.specs.Scripts.{scripted}
 use Rattle.zns_runner.specs.declared.task.Task.{Task}
 use Rattle.zns_runner.specs.declared.task.Task.TheVariants as the_task
 use Rattle.zns_runner.specs.Sessions.{IsOwnResult}
+use Rattle.zns_runner.specs.Runs.{IsRun}
 use Rattle.zns_runner.specs.Showing.{shown}
 use Rattle.zns_runner.specs.Generating.{made}
 use Rattle.zns_runner.specs.Summaries.{summary}
 use Rattle.zns_runner.specs.Checking.{IsSame}
-use Rattle.zns_runner.specs.Texts.{line}
+use Rattle.text_lines.specs.Texts.{line}
 
 -- The input is a session, and the output is its result in the order of its file. In that order its acts keep the limits,
 -- move pointers as they may, and leave committed blocks.
@@ -19,6 +22,13 @@ pub record IsServed (input output : List ℕ) : Type 0 where
   pub spelled : spells session input
   pub result : IsOwnResult session output
   pub kept : IsKept session.geometry (merge session (own_order session.acts))
+
+-- The input is a session, and the output is its result in the order that its queues took side by side.
+pub record IsRan (input output : List ℕ) : Type 0 where
+  pub session : Recorded
+  pub valid : IsSession session
+  pub spelled : spells session input
+  pub ran : IsRun session output
 
 -- the input is a session, and the output is the text that shows it
 pub record IsShown (input output : List ℕ) : Type 0 where
@@ -36,6 +46,13 @@ pub record IsConfirmed (input output : List ℕ) : Type 0 where
   pub same : IsSame input
   pub text : output ≡ same_line
 
+-- the input is a script, and the output has a line for each of its lines
+pub record IsHosted (input output : List ℕ) : Type 0 where
+  pub script : Scripted
+  pub valid : IsScript script
+  pub spelled : input ≡ script_text script
+  pub text : output ≡ scripted script.geometry script.lines
+
 -- there are few enough commands, and the output is the summary of the session that the number makes
 pub record IsGenerated (number count : ℕ) (output : List ℕ) : Type 0 where
   pub few : count ≤ 262144
@@ -44,6 +61,8 @@ pub record IsGenerated (number count : ℕ) (output : List ℕ) : Type 0 where
 -- what a task makes of an input
 abbrev pub IsOutputFor : Task → List ℕ → List ℕ → Type 0
 IsOutputFor the_task.One input output = IsServed input output
+IsOutputFor the_task.Run input output = IsRan input output
 IsOutputFor the_task.Check input output = IsConfirmed input output
 IsOutputFor the_task.Show input output = IsShown input output
+IsOutputFor the_task.Host input output = IsHosted input output
 IsOutputFor (the_task.Gen number count) input output = IsGenerated number count output

@@ -10,7 +10,7 @@ use Rattle.sqe_codec.specs.Commands.{cid_of}
 use Rattle.zone_model.specs.declared.act.Act.{Act}
 use Rattle.zone_model.specs.Places.{command_of}
 use Rattle.zone_model.specs.Sessions.{Recorded}
-use Rattle.zns_runner.specs.Texts.{line}
+use Rattle.text_lines.specs.Texts.{line}
 
 abbrev pub drive_line : GeometryFields → ℕ → List ℕ
 drive_line g acts = line (

@@ -7,7 +7,7 @@ use Rattle.zone_model.specs.Zones.{pointer, zones, active, opened, windows}
 use Rattle.zone_model.specs.Answers.{answered}
 use Rattle.zone_model.specs.Sessions.{Recorded}
 use Rattle.zns_runner.specs.declared.summing.Totals.{Totals}
-use Rattle.zns_runner.specs.Texts.{line}
+use Rattle.text_lines.specs.Texts.{line}
 
 -- all zones' pointers together, as offsets; that of a Full zone is its capacity
 abbrev pub pointers : GeometryFields → List Place → ℕ

@@ -4,20 +4,24 @@ use Rattle.std.specs.Fmt.{decimal}
 use Rattle.std.specs.Str.{bytes_eq}
 use Rattle.zns_runner.specs.declared.task.Task.{Task}
 use Rattle.zns_runner.specs.declared.task.Task.TheVariants as the_task
-use Rattle.zns_runner.specs.Decimals.{number_in}
+use Rattle.text_lines.specs.Decimals.{number_in}
 
 -- the words by which the program is asked for a task
 abbrev pub words_for : Task → List (List ℕ)
 words_for the_task.One = codes "one" ∷ []
+words_for the_task.Run = codes "run" ∷ []
 words_for the_task.Check = codes "check" ∷ []
 words_for the_task.Show = codes "show" ∷ []
+words_for the_task.Host = codes "host" ∷ []
 words_for (the_task.Gen number count) = codes "gen" ∷ decimal number ∷ decimal count ∷ []
 
 -- a task's numbers are numbers of 64 bits
 abbrev pub HasNumbers : Task → Type 0
 HasNumbers the_task.One = ⊤
+HasNumbers the_task.Run = ⊤
 HasNumbers the_task.Check = ⊤
 HasNumbers the_task.Show = ⊤
+HasNumbers the_task.Host = ⊤
 HasNumbers (the_task.Gen number count) = (number < 2 ^ 64) × (count < 2 ^ 64)
 
 -- the words ask for the task
@@ -28,9 +32,20 @@ pub record AskFor (words : List (List ℕ)) (t : Task) : Type 0 where
 -- a task makes its session, and so reads none
 abbrev pub MakesSession : Task → Type 0
 MakesSession the_task.One = ⊥
+MakesSession the_task.Run = ⊥
 MakesSession the_task.Check = ⊥
 MakesSession the_task.Show = ⊥
+MakesSession the_task.Host = ⊥
 MakesSession (the_task.Gen number count) = ⊤
+
+-- the task needs no threads
+abbrev pub IsPlain : Task → Type 0
+IsPlain the_task.One = ⊤
+IsPlain the_task.Run = ⊥
+IsPlain the_task.Check = ⊤
+IsPlain the_task.Show = ⊤
+IsPlain the_task.Host = ⊤
+IsPlain (the_task.Gen number count) = ⊤
 
 -- the words ask for a session to be made
 pub record AskToMake (words : List (List ℕ)) : Type 0 where
@@ -42,8 +57,10 @@ pub record AskToMake (words : List (List ℕ)) : Type 0 where
 abbrev pub task_of_word : List ℕ → Option Task
 task_of_word word =
     if bytes_eq word (codes "one") then Some the_task.One
+    else if bytes_eq word (codes "run") then Some the_task.Run
     else if bytes_eq word (codes "check") then Some the_task.Check
     else if bytes_eq word (codes "show") then Some the_task.Show
+    else if bytes_eq word (codes "host") then Some the_task.Host
     else None
 
 -- the task of two numbers
@@ -60,3 +77,8 @@ abbrev pub task_named : List (List ℕ) → Option Task
 task_named (word ∷ []) = task_of_word word
 task_named (word ∷ number ∷ count ∷ []) = task_of_numbers word number count
 task_named _ = None
+
+-- the task, unless it needs threads
+abbrev pub if_plain : Option Task → Option Task
+if_plain (Some the_task.Run) = None
+if_plain t = t

@@ -5,17 +5,21 @@ ghost use Rattle.zns_runner.specs.Tasks.{AskToMake, task_named};
 ghost use Rattle.zns_runner.specs.Outcomes.{moment, Means, IsComplete, GoesByCount};
 ghost use Rattle.zns_runner.specs.Edges.{status_after_flush};
 
+use crate::side_by_side::top;
 use crate::status::Status;
-use crate::top::top_plain;
 use crate::word::Word;
+use queue_controller::FreeGate;
 use std::alloc::Global;
 use std::io;
 use std::process::ExitCode;
+use std::sync::Wait;
+use std::thread::Threads;
 use zns_io::{NoMemory, Sink, Source};
 
 /// Does what the words ask for with what the source gives, and writes what it makes to the sink.
 /// Where memory ran out for the words, that is the status, and nothing is read or written.
-pub fn answer<S: Source, K: Sink>(
+pub fn answer<R: Threads + Wait + Sync, S: Source, K: Sink>(
+    rt: &R,
     alloc: Global,
     words: Result<Vec<Word>, NoMemory>,
     source: &mut S,
@@ -39,7 +43,7 @@ pub fn answer<S: Source, K: Sink>(
     ensures sink { OnErr words (sink.new ≡ sink.old) }
 {
     match words {
-        Ok(words) => top_plain(alloc, &words, source, sink),
+        Ok(words) => top(rt, alloc, &words, source, sink, &FreeGate),
         Err(_) => Status::NoMemory,
     }
 }

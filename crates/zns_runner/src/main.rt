@@ -1,17 +1,20 @@
-//! The program: it serves a session from standard input and writes the result to standard output, holds
-//! a result against the definitions, shows a session as text, or serves a session that a number makes
-//! and sums it up.
+//! The program: it serves a session from standard input, in the order of its file or each queue by a
+//! thread of its own, and writes the result to standard output; it holds a result against the
+//! definitions, shows a session as text, runs the script of a host, or serves a session that a number
+//! makes and sums it up.
 #![tactic(auto)]
 
 mod checking;
 mod comparing;
-mod decimals;
 mod edge;
 mod generating;
 mod merging;
+mod running;
 mod serving;
 mod showing;
+mod side_by_side;
 mod status;
+mod streaming;
 mod summing;
 mod task;
 #[cfg(test)]
@@ -25,19 +28,31 @@ use std::env::Env;
 use std::io;
 use std::io::{Read, Write};
 use std::process::ExitCode;
+use std::sync::Wait;
+use std::thread::Threads;
 use zns_io::{StdSink, StdSource};
 
 // Does what the words ask for with what a reader gives, flushes what was written, says how it ended,
 // and tells the exit status.
-fn run<R: Read + Drop>(rt: &(impl Env + AllocGlobal + Print + Eprint), reader: R) -> ExitCode {
+fn run<T: Threads + Wait + Sync, R: Read + Drop>(
+    rt: &(impl Env + AllocGlobal + Print + Eprint),
+    threads: &T,
+    reader: R,
+) -> ExitCode {
     let mut source = StdSource::new(reader);
     let mut sink = StdSink::new(io::writer(rt));
-    let status = answer(rt.alloc(), words::words(rt), &mut source, &mut sink);
+    let status = answer(
+        threads,
+        rt.alloc(),
+        words::words(rt),
+        &mut source,
+        &mut sink,
+    );
     let status = after_flush(status, io::writer(rt).flush());
     let _ = eprint!(rt; "{status}");
     exit_code(status)
 }
 
 fn main(rt: HostRuntime) -> ExitCode {
-    run(&rt, rt.reader())
+    run(&rt, &rt, rt.reader())
 }

@@ -1,12 +1,12 @@
 ghost use Rattle.std.specs.Prelude.{◌≡◌, ◌+◌, ◌*◌, ◌≤◌, ◌<◌, IfOk, OnOk, [], ◌∷◌, ◌++◌, All, length};
 ghost use Rattle.zone_model.specs.Replies.{descriptors};
 ghost use Rattle.drive_rules.specs.Reports.{bytes_of_all, changed_page};
-ghost use Rattle.zone_model.specs.Sessions.{IsAct, own_order, result_bytes};
-ghost use Rattle.solo_drive.specs.Drives.{history, changed_zones};
+ghost use Rattle.zone_model.specs.Sessions.{IsAct, own_order, reply_part, replies_bytes, result_bytes};
+ghost use Rattle.solo_drive.specs.Drives.{history, changed_zones, entries_for, bytes_for};
 ghost use Rattle.zns_runner.specs.Sessions.{IsOwnResult};
 ghost use Rattle.zns_runner.specs.Serving.{IsReply, AreReplies};
 
-use session_file::{Session, write_result};
+use session_file::{ResultFile, Session, write_result};
 use solo_drive::Solo;
 use sqe_codec::reply_len;
 use std::alloc::Global;
@@ -37,21 +37,62 @@ pub fn serve_act(alloc: Global, drive: &mut Solo, act: Act) -> Result<Reply, NoM
     })
 }
 
-// Serves acts in their order.
-fn serve_acts(alloc: Global, drive: &mut Solo, acts: Vec<Act>) -> Result<Replies, NoMemory>
+// Makes room for so many bytes.
+fn make_room(room: &mut Vec<u8>, len: usize) -> Result<(), NoMemory>
+    ensures { OnOk result (len ≤ length room.new.items) }
+{
+    if room.len() < len {
+        room.resize(len, 0)?;
+    }
+    Ok(())
+}
+
+// Serves one act, and puts the reply to it at the end of a result. What it reads comes into the room
+// first, which is used again for each act.
+fn serve_into(
+    drive: &mut Solo,
+    act: Act,
+    room: &mut Vec<u8>,
+    file: &mut ResultFile,
+) -> Result<(), NoMemory>
+    requires spare { 0 < drive.old.spare }
+    requires act { IsAct drive.old.geometry act }
+    ensures acts { OnOk result (drive.new.acts ≡ drive.old.acts ++ act ∷ []) }
+    ensures spare { OnOk result (drive.new.spare + 1 ≡ drive.old.spare) }
+    ensures geometry { drive.new.geometry ≡ drive.old.geometry }
+    ensures file { OnOk result (file.new
+        ≡ file.old ++ reply_part (entries_for drive.old act) (bytes_for drive.old act)) }
+{
+    let Act {
+        queue,
+        sqe,
+        payload,
+    } = act;
+    make_room(room, reply_len(drive.geometry(), queue == 0, &sqe) as usize)?;
+    let posted = drive.submit(queue, sqe, payload, room);
+    file.put(posted.entries.as_slice(), &room[..posted.len as usize])
+}
+
+// Serves acts in their order, and puts the replies to them at the end of a result.
+fn serve_acts(
+    alloc: Global,
+    drive: &mut Solo,
+    acts: Vec<Act>,
+    file: &mut ResultFile,
+) -> Result<(), NoMemory>
     requires fresh { drive.old.acts ≡ [] }
     requires room { drive.old.spare ≡ length acts.items }
     requires acts { All (IsAct drive.old.geometry) acts.items }
     ensures acts { OnOk result (drive.new.acts ≡ acts.items) }
     ensures geometry { drive.new.geometry ≡ drive.old.geometry }
-    ensures replies { IfOk result (λ r. AreReplies drive.old.geometry acts.items r.replies) }
+    ensures file { OnOk result (file.new
+        ≡ file.old ++ replies_bytes drive.old.geometry [] acts.items) }
 {
-    let mut replies = Replies::new(alloc, drive.spare())?;
+    let mut room = Vec::new(alloc);
     for act in acts {
-        let reply = serve_act(alloc, drive, act)?;
-        replies.push(reply);
+        serve_into(drive, act, &mut room, file)?;
     }
-    Ok(replies)
+    Ok(())
 }
 
 /// The descriptors of all zones of a drive.
@@ -76,7 +117,7 @@ pub fn page_of(alloc: Global, drive: &Solo) -> Result<Vec<u8>, NoMemory>
 }
 
 // The result file of a drive that served acts, by the replies to them.
-fn result_of(alloc: Global, drive: &Solo, replies: &Replies) -> Result<Bytes, NoMemory>
+pub(crate) fn result_of(alloc: Global, drive: &Solo, replies: &Replies) -> Result<Bytes, NoMemory>
     requires { AreReplies drive.now.geometry drive.now.acts replies.now.replies }
     ensures { IfOk result
         (λ b. b ≡ result_bytes drive.now.geometry (own_order drive.now.acts) drive.now.acts) }
@@ -92,6 +133,9 @@ pub fn serve(alloc: Global, session: Session) -> Result<Bytes, NoMemory>
 {
     let (geometry, acts) = session.into_parts();
     let mut drive = Solo::new(alloc, geometry, acts.len())?;
-    let replies = serve_acts(alloc, &mut drive, acts.into_vec())?;
-    result_of(alloc, &drive, &replies)
+    let mut file = ResultFile::new(alloc, &acts)?;
+    serve_acts(alloc, &mut drive, acts.into_vec(), &mut file)?;
+    let descriptors = descriptors_of(alloc, &drive)?;
+    let page = page_of(alloc, &drive)?;
+    file.finish(&descriptors, &page)
 }

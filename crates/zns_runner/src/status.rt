@@ -113,7 +113,10 @@ impl fmt::Display for Status {
         match self {
             Status::Ok => Ok(()),
             Status::NoMemory => writeln!(f, "zns_runner: no memory"),
-            Status::Usage => writeln!(f, "zns_runner: usage: one, check, show, gen NUMBER COUNT"),
+            Status::Usage => writeln!(
+                f,
+                "zns_runner: usage: one, run, check, show, host, gen NUMBER COUNT"
+            ),
             Status::ReadFault => writeln!(f, "zns_runner: read fault"),
             Status::WriteFault => writeln!(f, "zns_runner: write fault"),
             Status::BadFile { reason, offset } => {

@@ -2,12 +2,16 @@ mod arguments;
 mod checking;
 mod crowds;
 mod edge;
+mod examples;
 mod generating;
+mod hosting;
 mod kinds;
 mod managing;
+mod opcodes;
 mod refusals;
 mod reporting;
 mod rows;
+mod running;
 mod sessions;
 mod showing;
 mod windows;
@@ -165,7 +169,7 @@ fn each_status_has_its_number_and_line(rt: HostRuntime) -> Result<(), Fail> {
         (
             Status::Usage,
             2,
-            "zns_runner: usage: one, check, show, gen NUMBER COUNT\n",
+            "zns_runner: usage: one, run, check, show, host, gen NUMBER COUNT\n",
         ),
         (Status::ReadFault, 3, "zns_runner: read fault\n"),
         (Status::WriteFault, 4, "zns_runner: write fault\n"),

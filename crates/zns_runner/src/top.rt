@@ -1,34 +1,35 @@
 ghost use Rattle.std.specs.Prelude.{◌≡◌, ◌↔◌, ◌≤◌, ◌^◌, true, [], None, length, is_ok};
-ghost use Rattle.zns_runner.specs.Tasks.{MakesSession, AskToMake, task_named};
-ghost use Rattle.zns_runner.specs.Outcomes.{moment, Means, IsComplete, GoesByCount};
-ghost use Rattle.zns_runner.specs.Making.{Makes, MakesByCount, GivesInput, GivesOutput};
+ghost use Rattle.zns_runner.specs.Tasks.{IsPlain, MakesSession, AskToMake, task_named, if_plain};
+ghost use Rattle.zns_runner.specs.Outcomes.{moment, Means, IsPlainComplete, GoesByCount};
+ghost use Rattle.zns_runner.specs.Making.{Makes, MakesByCount, GivesInput, GivesOutput, EndsBy};
 
 use crate::checking::check;
 use crate::generating::generate;
 use crate::serving::serve;
 use crate::showing::show;
 use crate::status::Status;
+use crate::streaming::one_from;
 use crate::summing::summarize;
-use crate::task::{Task, task_of};
+use crate::task::{Task, plain_task_of};
 use crate::word::Word;
 use session_file::{Which, read};
 use std::alloc::Global;
 use zns_io::{Bytes, ReadErr, Sink, Source, read_all, write_all};
 
-// No input is longer.
-const GREATEST_INPUT: u64 = 1 << 29;
+/// No input is longer.
+pub const GREATEST_INPUT: u64 = 1 << 29;
 
 // No session that is made has more commands.
 const MOST_COMMANDS: u64 = 262_144;
 
-// The input is longer than the longest.
-const TOO_LONG: Status = Status::TooLarge {
+/// The input is longer than the longest.
+pub const TOO_LONG: Status = Status::TooLarge {
     which: Which::Input,
     number: GREATEST_INPUT + 1,
 };
 
-// The result of the session that an input is.
-fn one(alloc: Global, input: &[u8]) -> Result<Bytes, Status>
+/// The result of the session that an input is.
+pub fn one(alloc: Global, input: &[u8]) -> Result<Bytes, Status>
     requires { length input.now ≤ 2 ^ 29 }
     ensures { Makes Task.One input.now result }
 {
@@ -43,6 +44,15 @@ fn text(alloc: Global, input: &[u8]) -> Result<Bytes, Status>
 {
     let session = read(alloc, input)?;
     Ok(show(alloc, &session)?)
+}
+
+// What a new drive answers to the script that an input is.
+fn scripted(alloc: Global, input: &[u8]) -> Result<Bytes, Status>
+    requires { length input.now ≤ 2 ^ 29 }
+    ensures { Makes Task.Host input.now result }
+{
+    let script = host_script::read(alloc, input)?;
+    Ok(host_script::serve(alloc, script)?)
 }
 
 // The summary of the session of so many commands that a number makes.
@@ -62,77 +72,94 @@ fn made_summary(alloc: Global, number: u64, count: u64) -> Result<Bytes, Status>
 
 // What a task makes of its input.
 fn output_for(alloc: Global, task: Task, input: &[u8]) -> Result<Bytes, Status>
-    requires { length input.now ≤ 2 ^ 29 }
+    requires plain { IsPlain task }
+    requires short { length input.now ≤ 2 ^ 29 }
     ensures makes { Makes task input.now result }
     ensures by_count { MakesByCount task result }
 {
     match task {
         Task::One => one(alloc, input),
+        Task::Run => unreachable!(),
         Task::Check => check(alloc, input),
         Task::Show => text(alloc, input),
+        Task::Host => scripted(alloc, input),
         Task::Gen { number, count } => made_summary(alloc, number, count),
     }
 }
 
-// The input of a task: all that a source gives, or no bytes where the task reads nothing.
-fn input_for<S: Source>(alloc: Global, task: Task, source: &mut S) -> Result<Bytes, ReadErr>
+/// The input of a task: all that a source gives, or no bytes where the task reads nothing.
+pub fn input_for<S: Source>(alloc: Global, task: Task, source: &mut S) -> Result<Bytes, Status>
     ensures input { GivesInput task (S.left source.old) (S.left source.new)
         (S.faults source.old) (S.faults source.new) result }
     ensures gen_reads_nothing { MakesSession task → source.new ≡ source.old }
     ensures gen_goes_on { MakesSession task → is_ok result ≡ true }
 {
-    match task {
-        Task::One | Task::Check | Task::Show => read_all(alloc, source, GREATEST_INPUT),
-        Task::Gen { .. } => Ok(Bytes::empty(alloc)),
+    if let Task::Gen { .. } = task {
+        return Ok(Bytes::empty(alloc));
+    }
+    match read_all(alloc, source, GREATEST_INPUT) {
+        Ok(input) => Ok(input),
+        Err(ReadErr::NoMemory) => Err(Status::NoMemory),
+        Err(ReadErr::Failed) => Err(Status::ReadFault),
+        Err(ReadErr::Over) => Err(TOO_LONG),
     }
 }
 
 // What a task makes of what a source gives.
 fn output_of<S: Source>(alloc: Global, task: Task, source: &mut S) -> Result<Bytes, Status>
+    requires { IsPlain task }
     ensures output { GivesOutput task (S.left source.old) (S.left source.new)
         (S.faults source.old) (S.faults source.new) result }
     ensures by_count { MakesByCount task result }
     ensures gen_reads_nothing { MakesSession task → source.new ≡ source.old }
 {
-    let input = match input_for(alloc, task, source) {
-        Ok(input) => input,
-        Err(ReadErr::NoMemory) => return Err(Status::NoMemory),
-        Err(ReadErr::Failed) => return Err(Status::ReadFault),
-        Err(ReadErr::Over) => return Err(TOO_LONG),
-    };
-    output_for(alloc, task, input.as_slice())
+    if let Task::One = task {
+        return one_from(alloc, source);
+    }
+    match input_for(alloc, task, source) {
+        Ok(input) => output_for(alloc, task, input.as_slice()),
+        Err(status) => Err(status),
+    }
 }
 
-/// Does what the words ask for with what the source gives, and writes what it makes to the sink. The
-/// whole output is made before its first byte is written.
-pub fn top_plain<S: Source, K: Sink>(
-    alloc: Global,
-    words: &[Word],
-    source: &mut S,
-    sink: &mut K,
-) -> Status
-    ensures usage { (result ≡ Status.Usage) ↔ (task_named words.now ≡ None) }
-    ensures means { Means words.now
-        (moment (S.left source.old) (K.taken sink.old) (S.faults source.old) (K.faults sink.old))
-        (moment (S.left source.new) (K.taken sink.new) (S.faults source.new) (K.faults sink.new))
-        result }
-    ensures complete { IsComplete words.now
-        (moment (S.left source.old) (K.taken sink.old) (S.faults source.old) (K.faults sink.old))
-        (moment (S.left source.new) (K.taken sink.new) (S.faults source.new) (K.faults sink.new))
-        result }
-    ensures by_count { GoesByCount words.now result }
-    ensures gen_reads_nothing { AskToMake words.now → source.new ≡ source.old }
+/// Writes what a task made, or nothing where it made none, and says how the run ends.
+pub fn end_with<K: Sink>(sink: &mut K, output: Result<Bytes, Status>) -> Status
+    ensures { EndsBy output (K.taken sink.old) (K.taken sink.new)
+        (K.faults sink.old) (K.faults sink.new) result }
 {
-    let task = match task_of(words) {
-        Some(task) => task,
-        None => return Status::Usage,
-    };
-    let output = match output_of(alloc, task, source) {
+    let output = match output {
         Ok(output) => output,
         Err(status) => return status,
     };
     match write_all(sink, output.as_slice()) {
         Ok(()) => Status::Ok,
         Err(_) => Status::WriteFault,
+    }
+}
+
+/// Does what the words ask for with what the source gives, and writes what it makes to the sink. The
+/// whole output is made before its first byte is written. The word `run` needs threads, and is none
+/// of its words.
+pub fn top_plain<S: Source, K: Sink>(
+    alloc: Global,
+    words: &[Word],
+    source: &mut S,
+    sink: &mut K,
+) -> Status
+    ensures usage { (result ≡ Status.Usage) ↔ (if_plain (task_named words.now) ≡ None) }
+    ensures means { Means words.now
+        (moment (S.left source.old) (K.taken sink.old) (S.faults source.old) (K.faults sink.old))
+        (moment (S.left source.new) (K.taken sink.new) (S.faults source.new) (K.faults sink.new))
+        result }
+    ensures complete { IsPlainComplete words.now
+        (moment (S.left source.old) (K.taken sink.old) (S.faults source.old) (K.faults sink.old))
+        (moment (S.left source.new) (K.taken sink.new) (S.faults source.new) (K.faults sink.new))
+        result }
+    ensures by_count { GoesByCount words.now result }
+    ensures gen_reads_nothing { AskToMake words.now → source.new ≡ source.old }
+{
+    match plain_task_of(words) {
+        Some(task) => end_with(sink, output_of(alloc, task, source)),
+        None => Status::Usage,
     }
 }

@@ -1,10 +1,10 @@
 ghost use Rattle.std.specs.Prelude.{◌≡◌, ℕ, ◌<◌, ◌^◌, ◌↔◌, IfOk, IsTrue, Some};
 ghost use Rattle.std.specs.Fmt.{decimal};
-ghost use Rattle.zns_runner.specs.Decimals.{number_in};
+ghost use Rattle.text_lines.specs.Decimals.{number_in};
 
-use crate::decimals::number_in;
 use std::alloc::Global;
 use std::marker::Model;
+use text_lines::number_in;
 use zns_io::{Bytes, NoMemory};
 
 /// A word of the command line, seen as its bytes.

@@ -4,7 +4,8 @@ use super::sessions::Ask::{
     SetFeatures, Write,
 };
 use super::sessions::{Drive, LIMITED, PLAIN, RANDOM, RESET, header, push, push_on};
-use super::{cut, number, output, part};
+use super::{cut, number, output, part, run_on};
+use crate::status::Status;
 use std::alloc::Global;
 use std::process::Abort;
 use std::test::Fail;
@@ -128,7 +129,7 @@ fn push_reads(file: &mut Vec<u8>) -> Result<(), Fail> {
 }
 
 // 2,000 commands of three queues. 400 of the 1,000 Appends come after all zones are reset.
-fn busy_session(alloc: Global) -> Result<Vec<u8>, Fail> {
+pub fn busy_session(alloc: Global) -> Result<Vec<u8>, Fail> {
     let mut file = header(alloc, &BUSY, 2000)?;
     push(&mut file, &BUSY, 1, SetFeatures(0x0800_0000))?;
     push(&mut file, &BUSY, 2, Event)?;
@@ -188,6 +189,13 @@ fn tally_of<'a>(rt: &impl Abort, bytes: &'a [u8]) -> (Tally, &'a [u8]) {
 fn a_busy_session_is_served(rt: HostRuntime) -> Result<(), Fail> {
     let alloc = rt.alloc();
     let out = output(alloc, busy_session(alloc)?)?;
+    let mut both = busy_session(alloc)?;
+    both.extend_from_slice(&out)?;
+    let (status, said) = run_on(alloc, "check", both)?;
+    assert_eq!(rt;
+        (status, said.as_slice()),
+        (Status::Ok, b"same\n".as_slice())
+    );
     let (_, replies) = cut(&out, 12 + 2 * 2000);
     let (tally, rest) = tally_of(&rt, replies);
     // all but the event request have an entry

@@ -104,7 +104,7 @@ fn each_run_ends_with_its_number_and_line(rt: HostRuntime) -> Result<(), Fail> {
             false,
             2,
             0,
-            "zns_runner: usage: one, check, show, gen NUMBER COUNT\n",
+            "zns_runner: usage: one, run, check, show, gen NUMBER COUNT\n",
         ),
         (
             &[b"it", b"one", b"show"],
@@ -113,7 +113,7 @@ fn each_run_ends_with_its_number_and_line(rt: HostRuntime) -> Result<(), Fail> {
             false,
             2,
             0,
-            "zns_runner: usage: one, check, show, gen NUMBER COUNT\n",
+            "zns_runner: usage: one, run, check, show, gen NUMBER COUNT\n",
         ),
         (
             &[b"it", b"one"],
@@ -166,7 +166,7 @@ fn each_run_ends_with_its_number_and_line(rt: HostRuntime) -> Result<(), Fail> {
             left: &file,
             fails: read_fails,
         };
-        let code = run(&(&around, alloc), tape);
+        let code = run(&(&around, alloc), &rt, tape);
         assert_eq!(rt; code, ExitCode::from(number));
         assert_eq!(rt;
             (around.written.get(), around.said.get()),

@@ -1,4 +1,4 @@
-use Rattle.std.proofs.Common.{rules, ◌+◌, ap, arith}
+use Rattle.std.proofs.Common.{◌+◌, ap, arith}
 use Rattle.std.proofs.lemmas.Result.{err_from_is_err_and}
 use Rattle.zns_runner.specs.declared.task.Task.TheVariants as the_task
 use Rattle.zns_runner.specs.Making.{status_of, status_of_difference, IsCause}

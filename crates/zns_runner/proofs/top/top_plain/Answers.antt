@@ -1,26 +1,23 @@
-use Rattle.std.proofs.Common.{inl}
-use Rattle.zns_runner.proofs.Ends.{same_end, same_output, output_called, end_called}
-use Rattle.zns_runner.specs.declared.status.Status.TheVariants as status
-use Rattle.zns_runner.proofs.ByCount.{none_by_count, ended_by_count, made_by_count}
+use Rattle.std.proofs.Common.{◌≡◌, Some, None}
+use Rattle.zns_runner.specs.declared.task.Task.TheVariants as the_task
+use Rattle.zns_runner.specs.Outcomes.{moment}
+use Rattle.zns_runner.proofs.Finished.{answered, counted}
 use Rattle.zns_runner.proofs.top.top_plain.Goals as goal
 
-pub returns-in-Err-clause-complete : goal.returns-in-Err-clause-complete
-returns-in-Err-clause-complete g c = λ t bytes answer asked told calls calm_source calm_sink.
-    end_called t (g.S.Source.left c.args.source.now) (g.S.Source.left c.output_of.new.source) (g.S.Source.faults c.args.source.now) (g.S.Source.faults c.output_of.new.source) c.in-Err.status bytes answer
-    (same_end c.in-Some.task t (g.S.Source.left c.args.source.now) (g.S.Source.left c.output_of.new.source) (g.S.Source.faults c.args.source.now) (g.S.Source.faults c.output_of.new.source) c.in-Err.status (c.in-Some.ensures.complete t asked) c.in-Err.ensures.output) told calls calm_source
+pub returns-in-Some-clause-complete : goal.returns-in-Some-clause-complete
+returns-in-Some-clause-complete g c = λ t plain.
+    answered c.args.words.now c.in-Some.task t
+    (moment (g.S.Source.left c.args.source.now) (g.K.Sink.taken c.args.sink.now) (g.S.Source.faults c.args.source.now) (g.K.Sink.faults c.args.sink.now))
+    (moment (g.S.Source.left c.output_of.new.source) (g.K.Sink.taken c.end_with.new.sink) (g.S.Source.faults c.output_of.new.source) (g.K.Sink.faults c.end_with.new.sink))
+    c.output_of.result c.end_with.result (λ asked. c.in-Some.ensures.complete t plain asked) c.output_of.ensures.output c.end_with.ensures
 
-pub returns-in-Ok-write_all-clause-complete : goal.returns-in-Ok-write_all-clause-complete
-returns-in-Ok-write_all-clause-complete g c = λ t bytes answer asked told calls calm_source calm_sink.
-    inl (output_called t (g.S.Source.left c.args.source.now) (g.S.Source.left c.output_of.new.source) c.in-Ok.output bytes answer (same_output c.in-Some.task t (g.S.Source.left c.args.source.now) (g.S.Source.left c.output_of.new.source) c.in-Ok.output (c.in-Some.ensures.complete t asked) c.in-Ok.ensures.output) told calls)
+pub returns-in-Some-clause-by_count : goal.returns-in-Some-clause-by_count
+returns-in-Some-clause-by_count g c =
+    counted c.args.words.now c.in-Some.task
+    (moment (g.S.Source.left c.args.source.now) (g.K.Sink.taken c.args.sink.now) (g.S.Source.faults c.args.source.now) (g.K.Sink.faults c.args.sink.now))
+    (moment (g.S.Source.left c.output_of.new.source) (g.K.Sink.taken c.end_with.new.sink) (g.S.Source.faults c.output_of.new.source) (g.K.Sink.faults c.end_with.new.sink))
+    c.output_of.result c.end_with.result (λ number count asked. c.in-Some.ensures.complete (the_task.Gen number count) tt asked) c.output_of.ensures.by_count c.end_with.ensures
 
 pub returns-in-None-clause-by_count : goal.returns-in-None-clause-by_count
-returns-in-None-clause-by_count g c = none_by_count c.args.words.now status.Usage c.in-None.ensures.complete
-
-pub returns-in-Err-clause-by_count : goal.returns-in-Err-clause-by_count
-returns-in-Err-clause-by_count g c = ended_by_count c.args.words.now c.in-Some.task c.in-Err.status c.in-Some.ensures.complete c.in-Err.ensures.by_count
-
-pub returns-in-Ok-write_all-clause-by_count : goal.returns-in-Ok-write_all-clause-by_count
-returns-in-Ok-write_all-clause-by_count g c = made_by_count c.args.words.now c.in-Some.task c.in-Ok.output status.Ok c.in-Some.ensures.complete c.in-Ok.ensures.by_count (λ count told. absurd cc)
-
-pub returns-clause-by_count : goal.returns-clause-by_count
-returns-clause-by_count g c = made_by_count c.args.words.now c.in-Some.task c.in-Ok.output status.WriteFault c.in-Some.ensures.complete c.in-Ok.ensures.by_count (λ count told. absurd cc)
+returns-in-None-clause-by_count g c = λ number count asked.
+    let is : None ≡ Some (the_task.Gen number count) = c.in-None.ensures.complete (the_task.Gen number count) tt asked in absurd cc

@@ -1,7 +1,7 @@
 use Rattle.std.proofs.Common.{◌≡◌, arith, rules}
 use Rattle.std.proofs.lemmas.Grind.{common_steps}
-use Rattle.zns_runner.specs.Decimals.{number_in}
-use Rattle.zns_runner.proofs.SpelledNumbers.{exactly}
+use Rattle.text_lines.specs.Decimals.{number_in}
+use Rattle.text_lines.proofs.SpelledNumbers.{exactly}
 use Rattle.zns_runner.proofs.word.Word.number.Goals as goal
 
 pub returns-clause-exactly : goal.returns-clause-exactly

@@ -1,0 +1,24 @@
+ghost use Rattle.std.specs.Prelude.{◌≡◌, IfOk};
+ghost use Rattle.zns_runner.specs.Runs.{IsRun};
+
+use crate::serving::result_of;
+use queue_controller::{Gate, run_session};
+use session_file::Session;
+use std::alloc::Global;
+use std::sync::Wait;
+use std::thread::Threads;
+use zns_io::{Bytes, NoMemory};
+
+/// What a session gives in the order that its queues took side by side, each served by a worker of
+/// its own: the whole result file.
+pub fn run<R: Threads + Wait + Sync, G: Gate + Sync>(
+    rt: &R,
+    alloc: Global,
+    session: Session,
+    gate: &G,
+) -> Result<Bytes, NoMemory>
+    ensures { IfOk result (IsRun session) }
+{
+    let outcome = run_session(rt, alloc, session, gate)?;
+    result_of(alloc, &outcome.drive, &outcome.replies)
+}

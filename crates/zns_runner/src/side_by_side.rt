@@ -1,0 +1,80 @@
+//! The top of the program, which may start threads and wait.
+ghost use Rattle.std.specs.Prelude.{◌≡◌, ◌↔◌, ◌≤◌, ◌^◌, None, length};
+ghost use Rattle.zns_runner.specs.Tasks.{AskToMake, task_named};
+ghost use Rattle.zns_runner.specs.Outcomes.{moment, Means, IsComplete, GoesByCount};
+ghost use Rattle.zns_runner.specs.Making.{Makes, GivesOutput};
+
+use crate::running::run;
+use crate::status::Status;
+use crate::task::{Task, task_of};
+use crate::top::{end_with, input_for, top_plain};
+use crate::word::Word;
+use queue_controller::Gate;
+use session_file::read;
+use std::alloc::Global;
+use std::sync::Wait;
+use std::thread::Threads;
+use zns_io::{Bytes, Sink, Source};
+
+// The result of the session that an input is, in the order that its queues took side by side.
+fn run_input<R: Threads + Wait + Sync, G: Gate + Sync>(
+    rt: &R,
+    alloc: Global,
+    input: &[u8],
+    gate: &G,
+) -> Result<Bytes, Status>
+    requires { length input.now ≤ 2 ^ 29 }
+    ensures { Makes Task.Run input.now result }
+{
+    let session = read(alloc, input)?;
+    Ok(run(rt, alloc, session, gate)?)
+}
+
+// The result of the session that a source gives, in the order that its queues took side by side.
+fn run_source<R: Threads + Wait + Sync, S: Source, G: Gate + Sync>(
+    rt: &R,
+    alloc: Global,
+    source: &mut S,
+    gate: &G,
+) -> Result<Bytes, Status>
+    ensures { GivesOutput Task.Run (S.left source.old) (S.left source.new)
+        (S.faults source.old) (S.faults source.new) result }
+{
+    match input_for(alloc, Task::Run, source) {
+        Ok(input) => run_input(rt, alloc, input.as_slice(), gate),
+        Err(status) => Err(status),
+    }
+}
+
+/// Does what the words ask for with what the source gives, and writes what it makes to the sink. The
+/// whole output is made before its first byte is written.
+///
+/// With `run`, each queue of the session is served by a worker of its own, however their threads
+/// interleave. Under Ok the output then names one order of the commands, each once and each queue's
+/// in its own order, and is what a drive that serves one command at a time gives in that order; what
+/// is kept is kept there (`Means`: `Finishes`, `IsRan`).
+pub fn top<R: Threads + Wait + Sync, S: Source, K: Sink, G: Gate + Sync>(
+    rt: &R,
+    alloc: Global,
+    words: &[Word],
+    source: &mut S,
+    sink: &mut K,
+    gate: &G,
+) -> Status
+    ensures usage { (result ≡ Status.Usage) ↔ (task_named words.now ≡ None) }
+    ensures means { Means words.now
+        (moment (S.left source.old) (K.taken sink.old) (S.faults source.old) (K.faults sink.old))
+        (moment (S.left source.new) (K.taken sink.new) (S.faults source.new) (K.faults sink.new))
+        result }
+    ensures complete { IsComplete words.now
+        (moment (S.left source.old) (K.taken sink.old) (S.faults source.old) (K.faults sink.old))
+        (moment (S.left source.new) (K.taken sink.new) (S.faults source.new) (K.faults sink.new))
+        result }
+    ensures by_count { GoesByCount words.now result }
+    ensures gen_reads_nothing { AskToMake words.now → source.new ≡ source.old }
+{
+    match task_of(words) {
+        Some(Task::Run) => end_with(sink, run_source(rt, alloc, source, gate)),
+        _ => top_plain(alloc, words, source, sink),
+    }
+}
