@@ -104,7 +104,7 @@ fn each_run_ends_with_its_number_and_line(rt: HostRuntime) -> Result<(), Fail> {
             false,
             2,
             0,
-            "zns_runner: usage: one, run, check, show, gen NUMBER COUNT\n",
+            "zns_runner: usage: one, run, check, show, host, gen NUMBER COUNT\n",
         ),
         (
             &[b"it", b"one", b"show"],
@@ -113,7 +113,7 @@ fn each_run_ends_with_its_number_and_line(rt: HostRuntime) -> Result<(), Fail> {
             false,
             2,
             0,
-            "zns_runner: usage: one, run, check, show, gen NUMBER COUNT\n",
+            "zns_runner: usage: one, run, check, show, host, gen NUMBER COUNT\n",
         ),
         (
             &[b"it", b"one"],
