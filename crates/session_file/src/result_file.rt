@@ -41,8 +41,8 @@ impl ResultFile {
         put_part(&mut self.file, entries, read)
     }
 
-    /// The whole file, with the descriptor of every zone in 64 bytes each, and the 4,096 bytes of the
-    /// page of changed zones.
+    /// The whole file, with the descriptor of every zone in 64 bytes each, and the 4,096 bytes of
+    /// the page of changed zones.
     pub fn finish(self, descriptors: &[u8], page: &[u8]) -> Result<Bytes, NoMemory>
         ensures { IfOk result (λ b. b ≡ self ++ descriptors.now ++ page.now) }
     {

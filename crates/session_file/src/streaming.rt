@@ -40,7 +40,8 @@ fn fill_header<S: Source>(alloc: Global, source: &mut S, feed: &mut Feed) -> Res
     requires { length feed.old ≤ 65600 }
     ensures goes_on { GoesOn (S.left source.old) (S.left source.new) feed.old feed.new }
     ensures few { length feed.new ≤ 65600 }
-    ensures fault { IsErrOf result FeedErr.Failed → Rose (S.faults source.old) (S.faults source.new) }
+    ensures fault { IsErrOf result FeedErr.Failed
+        → Rose (S.faults source.old) (S.faults source.new) }
     ensures never_falls { S.faults source.old ≤ S.faults source.new }
 {
     while feed.rest().len() < HEADER_LEN {
@@ -68,7 +69,8 @@ fn take_record<S: Source>(
         (GoesOn (S.left source.old) (S.left source.new) feed.old feed.new) }
     ensures next { IfOk result (λ t. IfSome t (IsNext g.now.fields before)) }
     ensures held { length feed.new ≤ 2 ^ 28 + 65536 }
-    ensures fault { IsErrOf result FeedErr.Failed → Rose (S.faults source.old) (S.faults source.new) }
+    ensures fault { IsErrOf result FeedErr.Failed
+        → Rose (S.faults source.old) (S.faults source.new) }
     ensures never_falls { S.faults source.old ≤ S.faults source.new }
 {
     let start = Progress { at: 0, ..before };
@@ -105,7 +107,8 @@ fn take_records<S: Source>(
     ensures most { IfOk result (λ r. length r.acts.acts ≤ commands) }
     ensures all { IfOk result (λ r. r.all ≡ true → length r.acts.acts ≡ commands) }
     ensures held { length feed.new ≤ 2 ^ 28 + 65536 }
-    ensures fault { IsErrOf result FeedErr.Failed → Rose (S.faults source.old) (S.faults source.new) }
+    ensures fault { IsErrOf result FeedErr.Failed
+        → Rose (S.faults source.old) (S.faults source.new) }
     ensures never_falls { S.faults source.old ≤ S.faults source.new }
 {
     let mut acts = Acts::new(alloc, commands)?;
@@ -146,7 +149,8 @@ fn has_ended<S: Source>(alloc: Global, source: &mut S, feed: &mut Feed) -> Resul
     ensures held { length feed.new ≤ length feed.old + 65536 }
     ensures empty { IfOk result (λ ended. ended ≡ true → feed.new ≡ []) }
     ensures end { IfOk result (λ ended. ended ≡ true → IsAtEnd (S.left source.new)) }
-    ensures fault { IsErrOf result FeedErr.Failed → Rose (S.faults source.old) (S.faults source.new) }
+    ensures fault { IsErrOf result FeedErr.Failed
+        → Rose (S.faults source.old) (S.faults source.new) }
     ensures never_falls { S.faults source.old ≤ S.faults source.new }
 {
     if !feed.rest().is_empty() {
@@ -169,7 +173,8 @@ fn read_after<S: Source>(
     ensures gives { IfOk result (GivesAfter (S.left source.old) (S.left source.new)
         (header_bytes header.geometry.fields header.commands) feed) }
     ensures stops { OnErr result (StopsWithin (S.left source.old) (S.left source.new) feed) }
-    ensures fault { IsErrOf result FeedErr.Failed → Rose (S.faults source.old) (S.faults source.new) }
+    ensures fault { IsErrOf result FeedErr.Failed
+        → Rose (S.faults source.old) (S.faults source.new) }
     ensures never_falls { S.faults source.old ≤ S.faults source.new }
 {
     let mut feed = feed;
@@ -189,7 +194,8 @@ pub fn read_from<S: Source>(alloc: Global, source: &mut S) -> Result<Given, Feed
     ensures gives { IfOk result (Gives (S.left source.old) (S.left source.new)) }
     ensures stops { OnErr result
         (ReadsFrontUpTo (S.left source.old) (S.left source.new) (2 ^ 29)) }
-    ensures fault { IsErrOf result FeedErr.Failed → Rose (S.faults source.old) (S.faults source.new) }
+    ensures fault { IsErrOf result FeedErr.Failed
+        → Rose (S.faults source.old) (S.faults source.new) }
     ensures never_falls { S.faults source.old ≤ S.faults source.new }
 {
     let mut feed = Feed::new(alloc);

@@ -1,8 +1,7 @@
 -- What the end of a run says, by what was made and by how it was written.
-use Rattle.std.proofs.Common.{◌≡◌, ℕ, ◌<◌, List, Option, Some, Result, Ok, Err, refl, sym, ap, subst, ◌∙◌, inl, inr}
-use Rattle.std.specs.Prelude.{◌⊎◌, ◌↔◌}
+use Rattle.std.proofs.Common.{◌≡◌, ℕ, List, Some, Result, Ok, Err, sym, subst, ◌∙◌, inl}
+use Rattle.std.specs.Prelude.{◌⊎◌}
 use Rattle.zns_io.specs.declared.bytes.Bytes.{Bytes}
-use Rattle.zns_io.specs.Faults.{Rose}
 use Rattle.session_file.specs.declared.file_err.Which.TheVariants as which
 use Rattle.zns_runner.specs.declared.status.Status.{Status}
 use Rattle.zns_runner.specs.declared.status.Status.TheVariants as status

@@ -2,15 +2,12 @@
 use Rattle.std.proofs.Common.{◌≡◌, ℕ, ◌+◌, ◌*◌, ◌^◌, ◌<◌, ◌≤◌, true, false, List, [], ◌∷◌, ◌++◌, length, take, drop, Some, None, refl, sym, ap, subst, ◌∙◌, arith}
 use Rattle.std.proofs.lemmas.Bool.Decides.{nat_tests}
 use Rattle.std.proofs.lemmas.List.{append_assoc, take-append-drop}
-use Rattle.std.specs.Prelude.{nat_lt, Option, Result, Ok, Err, IfOk, IsErrOf}
+use Rattle.std.specs.Prelude.{nat_lt, Option, Err}
 use Rattle.std.specs.List.{flat_map}
 use Rattle.byteorder.specs.Endian.{little_bytes}
 use Rattle.zns_types.specs.Rows.{Row, first_holding}
 use Rattle.zns_types.proofs.RowLemmas.{first_holding-append_none}
 use Rattle.zns_io.specs.declared.read_err.ReadErr.TheVariants as errors
-use Rattle.zns_io.specs.declared.bytes.Bytes.{Bytes}
-use Rattle.zns_io.specs.declared.read_err.ReadErr.{ReadErr}
-use Rattle.zns_io.specs.Faults.{Rose}
 use Rattle.zns_io.specs.Reading.{ReadsAll, ReadsFrontUpTo, IsByLimit}
 use Rattle.zone_model.specs.Sessions.{Recorded, IsSession, IsOrder, spells, spelling, order_bytes, result_bytes, result_of}
 use Rattle.session_file.specs.declared.file_err.Which.TheVariants as which
@@ -35,7 +32,7 @@ use Rattle.zns_runner.specs.Tasks.{MakesSession}
 use Rattle.zns_runner.specs.Checking.{HasResult, bytes_after_order}
 use Rattle.zns_runner.specs.Inputs.{input_row, session_rows, checked_rows, host_rows, made_rows, SpellsScript, input_of, Reads}
 use Rattle.zns_runner.specs.Outcomes.{CallsForOf}
-use Rattle.zns_runner.specs.Making.{status_of, IsCause, GivesInput}
+use Rattle.zns_runner.specs.Making.{status_of, IsCause}
 
 -- ---- the length of an input
 

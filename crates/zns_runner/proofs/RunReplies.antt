@@ -10,7 +10,7 @@ use Rattle.zone_model.specs.Places.{Place}
 use Rattle.zone_model.specs.Answers.{answered, answered_back, and_then}
 use Rattle.zone_model.specs.Entries.{posted}
 use Rattle.zone_model.specs.Replies.{reply_bytes}
-use Rattle.zone_model.specs.Sessions.{Recorded, IsMerge, merge, own_order, reply_part, replies_bytes, result_bytes}
+use Rattle.zone_model.specs.Sessions.{Recorded, IsMerge, own_order, reply_part, replies_bytes, result_bytes}
 use Rattle.zone_model.proofs.Histories.{answered-push}
 use Rattle.session_file.specs.Results.{part_of}
 use Rattle.queue_controller.specs.Replies.{Response, response_of, response_at, all_responses, Respond}

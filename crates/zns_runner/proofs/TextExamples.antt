@@ -11,8 +11,6 @@ use Rattle.zone_model.specs.Places.{command_of, deeds, had_excursion, cleared, w
 use Rattle.zone_model.specs.Zones.{counted, closed_zones}
 use Rattle.zone_model.specs.Notices.{enabled, changed, masked, pending, waiting}
 use Rattle.zone_model.specs.Answers.{status, evicted, zone_deed, fires, answer, answered_back, answered}
-use Rattle.zone_model.specs.Entries.{acts_on, entries_on, dwords_of, posted}
-use Rattle.zone_model.specs.Replies.{reply_bytes}
 use Rattle.zone_model.specs.Sessions.{Recorded}
 use Rattle.zone_model.proofs.ExampleDrive.{drive, filled}
 use Rattle.zone_model.proofs.ExampleDrive as act

@@ -47,8 +47,8 @@ fn make_room(room: &mut Vec<u8>, len: usize) -> Result<(), NoMemory>
     Ok(())
 }
 
-// Serves one act, and puts the reply to it at the end of a result. What it reads comes into the room
-// first, which is used again for each act.
+// Serves one act, and puts the reply to it at the end of a result. What it reads comes into the
+// room first, which is used again for each act.
 fn serve_into(
     drive: &mut Solo,
     act: Act,
