@@ -49,13 +49,13 @@ pub record CommitPasses (g : GeometryFields) (zone : Zone) (last : ℕ) : Type 0
 
 pub write_passes : (g : GeometryFields) (zone : Zone) (from blocks : ℕ) → Admits g zone (deed.Write from blocks) → WritePasses g zone from blocks
 write_passes g zone from blocks e =
-    let fails = none_holds (write_rows g zone from blocks) e in
-    record { not_full = fails.0; not_read_only = fails.1.0; not_offline = fails.1.1.0; placed = fails.1.1.1.0; within = ltb-false g.capacity (from + blocks) fails.1.1.1.1.0 }
+    let (full, (read_only, (offline, (misplaced, (beyond, _))))) = none_holds (write_rows g zone from blocks) e in
+    record { not_full = full; not_read_only = read_only; not_offline = offline; placed = misplaced; within = ltb-false g.capacity (from + blocks) beyond }
 
 pub append_passes : (g : GeometryFields) (zone : Zone) (blocks : ℕ) → Admits g zone (deed.Append blocks) → AppendPasses g zone blocks
 append_passes g zone blocks e =
-    let fails = none_holds (append_rows g zone blocks) e in
-    record { not_full = fails.0; not_read_only = fails.1.0; not_offline = fails.1.1.0; no_window = fails.1.1.1.0; within = ltb-false g.capacity (zone.pointer + blocks) fails.1.1.1.1.0 }
+    let (full, (read_only, (offline, (windowed, (beyond, _))))) = none_holds (append_rows g zone blocks) e in
+    record { not_full = full; not_read_only = read_only; not_offline = offline; no_window = windowed; within = ltb-false g.capacity (zone.pointer + blocks) beyond }
 
 not_none : (n : ℕ) → (n == 0) ≡ false → 1 ≤ n
 not_none n e = grind (arith, nat_tests)
@@ -67,24 +67,24 @@ not_lacking false lacking e is = absurd cc
 
 pub open_passes : (g : GeometryFields) (zone : Zone) (asks_window : Bool) → Admits g zone (deed.Open asks_window) → OpenPasses g zone asks_window
 open_passes g zone asks_window e =
-    let fails = none_holds (open_rows g zone asks_window) e in
+    let (misled, (windowless, (uneven, _))) = none_holds (open_rows g zone asks_window) e in
     record {
-      leads = not-false _ fails.0;
-      some_windows = λ asks. not_none g.windows (not_lacking asks_window (g.windows == 0) fails.1.0 asks);
-      granular = λ asks. eqb-true (zone.pointer % g.granule) 0 (not-false _ (not_lacking asks_window (not (zone.pointer % g.granule == 0)) fails.1.1.0 asks));
+      leads = not-false _ misled;
+      some_windows = λ asks. not_none g.windows (not_lacking asks_window (g.windows == 0) windowless asks);
+      granular = λ asks. eqb-true (zone.pointer % g.granule) 0 (not-false _ (not_lacking asks_window (not (zone.pointer % g.granule == 0)) uneven asks));
     }
 
 pub commit_passes : (g : GeometryFields) (zone : Zone) (last : ℕ) → Admits g zone (deed.Commit last) → CommitPasses g zone last
 commit_passes g zone last e =
-    let fails = none_holds (commit_rows g zone last) e in
-    let bounds = or_parts (nat_lt last zone.pointer || nat_lt (zone.pointer + g.window - 1) last) (nat_le g.capacity last) fails.1.0 in
+    let (windowless, (outside, (uneven, _))) = none_holds (commit_rows g zone last) e in
+    let bounds = or_parts (nat_lt last zone.pointer || nat_lt (zone.pointer + g.window - 1) last) (nat_le g.capacity last) outside in
     let low = or_parts (nat_lt last zone.pointer) (nat_lt (zone.pointer + g.window - 1) last) bounds.0 in
     record {
-      window = not-false _ fails.0;
+      window = not-false _ windowless;
       from_pointer = ltb-false last zone.pointer low.0;
       in_window = ltb-false (zone.pointer + g.window - 1) last low.1;
       within = leb-false g.capacity last bounds.1;
-      granular = eqb-true _ 0 (not-false _ fails.1.1.0);
+      granular = eqb-true _ 0 (not-false _ uneven);
     }
 
 -- where the state decides alone

@@ -53,10 +53,15 @@ pub written-page : (fs : List PageField) → AreLaid 0 fs → written (replicate
 unfolding page
 written-page fs laid = written_from [] 0 fs refl laid
 
--- each field stands at its place, with more after it
+-- a field stands at its place, with more after it
+pub record StandsIn (bytes : List ℕ) (f : PageField) : Type 0 where
+  pub rest : List ℕ
+  pub is : drop f.place bytes ≡ f.bytes ++ rest
+
+-- each field stands at its place
 abbrev pub Stand : List ℕ → List PageField → Type 0
 Stand bytes [] = Unit {0}
-Stand bytes (f ∷ fs) = ((rest : List ℕ) × (drop f.place bytes ≡ f.bytes ++ rest)) × Stand bytes fs
+Stand bytes (f ∷ fs) = StandsIn bytes f × Stand bytes fs
 
 stand_from : (front : List ℕ) (here : ℕ) (fs : List PageField) → length front ≡ here → AreLaid here fs → Stand (front ++ page_from here fs) fs
 stand_from front here [] len laid = tt
@@ -69,7 +74,8 @@ stand_from front here (f ∷ fs) len laid =
     let first : drop f.place (front ++ (zeros ++ (f.bytes ++ rest))) ≡ f.bytes ++ rest = drop_past front (zeros ++ (f.bytes ++ rest)) f.place (omega (arith, laid.0)) ∙ drop_at zeros (f.bytes ++ rest) (f.place - length front) zeros_len in
     let others : Stand (next ++ rest) fs = stand_from next (f.place + length f.bytes) fs next_len laid.2 in
     let same : next ++ rest ≡ front ++ (zeros ++ (f.bytes ++ rest)) = simp append_assoc in
-    ((rest, first), subst (λ (bytes : List ℕ). Stand bytes fs) same others)
+    let stands : StandsIn (front ++ (zeros ++ (f.bytes ++ rest))) f = record { rest = rest; is = first } in
+    (stands, subst (λ (bytes : List ℕ). Stand bytes fs) same others)
 
 -- the fields of a page stand at their places
 pub stand-page : (fs : List PageField) → AreLaid 0 fs → Stand (page fs) fs

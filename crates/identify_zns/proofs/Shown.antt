@@ -7,7 +7,7 @@ use Rattle.zns_types.specs.declared.fields.GeometryFields.{GeometryFields}
 use Rattle.zns_types.specs.Fields.{field, bit}
 use Rattle.identify_zns.specs.Layout.{page}
 use Rattle.identify_zns.specs.Pages.{one, zero_based, has_windows, characteristics, zoned_namespace_fields, zoned_page, shown}
-use Rattle.identify_zns.proofs.Layouts.{stand-page}
+use Rattle.identify_zns.proofs.Layouts.{AreLaid, stand-page}
 
 -- the field of a number that stands at a place is the number
 field-stands : (place width n : ℕ) (bytes rest : List ℕ) → n < 256 ^ width → drop place bytes ≡ little_bytes width n ++ rest → field place width bytes ≡ n
@@ -39,15 +39,16 @@ pub record Fit (g : GeometryFields) : Type 0 where
 pub zoned_page-shown : (g : GeometryFields) → Fit g → zoned_page (page (zoned_namespace_fields g)) ≡ shown g
 zoned_page-shown g fit =
     let bytes = page (zoned_namespace_fields g) in
-    let s = stand-page (zoned_namespace_fields g) (omega arith, omega arith, (omega arith, omega arith, (omega arith, omega arith, (omega arith, omega arith, (omega arith, omega arith, (omega arith, omega arith, (omega arith, omega arith, (omega arith, omega arith, tt)))))))) in
+    let laid : AreLaid 0 (zoned_namespace_fields g) = (omega arith, omega arith, (omega arith, omega arith, (omega arith, omega arith, (omega arith, omega arith, (omega arith, omega arith, (omega arith, omega arith, (omega arith, omega arith, (omega arith, omega arith, tt)))))))) in
+    let (crossing, (most_active, (most_open, (some, (granular, (wide, (flush, (sized, _)))))))) = stand-page (zoned_namespace_fields g) laid in
     let bits = two_bits (bit 0 g.flags) (has_windows g) in
-    let cross : bit 0 (field 2 2 bytes) ≡ bit 0 g.flags = ap (bit 0) (field-stands 2 2 (characteristics g) bytes s.0.0 bits.0 s.0.1) ∙ bits.1 in
-    let mar = field-stands 4 4 (zero_based g.active_limit) bytes s.1.0.0 (zero_based-fits g.active_limit fit.active_limit) s.1.0.1 in
-    let mor = field-stands 8 4 (zero_based g.open_limit) bytes s.1.1.0.0 (zero_based-fits g.open_limit fit.open_limit) s.1.1.0.1 in
-    let windows = field-stands 44 4 g.windows bytes s.1.1.1.0.0 fit.windows s.1.1.1.0.1 in
-    let granule = field-stands 48 2 g.granule bytes s.1.1.1.1.0.0 fit.granule s.1.1.1.1.0.1 in
-    let window = field-stands 50 2 g.window bytes s.1.1.1.1.1.0.0 fit.window s.1.1.1.1.1.0.1 in
-    let byte : field 52 1 bytes ≡ one (has_windows g) = ap (little_number 1) s.1.1.1.1.1.1.0.1 ∙ omega arith in
+    let cross : bit 0 (field 2 2 bytes) ≡ bit 0 g.flags = ap (bit 0) (field-stands 2 2 (characteristics g) bytes crossing.rest bits.0 crossing.is) ∙ bits.1 in
+    let mar = field-stands 4 4 (zero_based g.active_limit) bytes most_active.rest (zero_based-fits g.active_limit fit.active_limit) most_active.is in
+    let mor = field-stands 8 4 (zero_based g.open_limit) bytes most_open.rest (zero_based-fits g.open_limit fit.open_limit) most_open.is in
+    let windows = field-stands 44 4 g.windows bytes some.rest fit.windows some.is in
+    let granule = field-stands 48 2 g.granule bytes granular.rest fit.granule granular.is in
+    let window = field-stands 50 2 g.window bytes wide.rest fit.window wide.is in
+    let byte : field 52 1 bytes ≡ one (has_windows g) = ap (little_number 1) flush.is ∙ omega arith in
     let explicit : bit 0 (field 52 1 bytes) ≡ has_windows g = ap (bit 0) byte ∙ (one_bit (has_windows g)).1 in
-    let size = field-stands 2816 8 g.zone_size bytes s.1.1.1.1.1.1.1.0.0 fit.zone_size s.1.1.1.1.1.1.1.0.1 in
+    let size = field-stands 2816 8 g.zone_size bytes sized.rest fit.zone_size sized.is in
     rw (cross, mar, mor, windows, granule, window, explicit, size) refl

@@ -24,7 +24,9 @@ aimed-zone z (Some d) a e = cc
 
 -- the block of a Send that no row of the front refuses is in the namespace
 send-below : (g : GeometryFields) (nsid slba act : ℕ) (option : Bool) → 1 ≤ g.zone_size → first_holding (send_front g nsid slba act false option) ≡ None → zone_of g slba < g.zones
-send-below g nsid slba act option size none = div_below slba g.zone_size g.zones size (leb-false (all_blocks g) slba (none_holds (send_front g nsid slba act false option) none).1.1.1.0)
+send-below g nsid slba act option size none =
+    let (_, (_, (_, (beyond, _)))) = none_holds (send_front g nsid slba act false option) none in
+    div_below slba g.zone_size g.zones size (leb-false (all_blocks g) slba beyond)
 
 aim-below : (g : GeometryFields) (k : Cmd) (a : Aim) → IsTrue (is_send k) → 1 ≤ g.zone_size → first_holding (front_rows g k) ≡ None → aim_of g k ≡ Some a → a.zone < g.zones
 aim-below g (cmd.Send nsid slba act true option) a is size none e = absurd (cc e)

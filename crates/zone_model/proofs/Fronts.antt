@@ -11,19 +11,19 @@ use Rattle.drive_rules.specs.Tables.{write_front, read_front, append_front, send
 
 -- the blocks of a Write are blocks of the namespace
 pub write_front-within : (g : GeometryFields) (nsid slba blocks : ℕ) → first_holding (write_front g nsid slba blocks) ≡ None → slba + blocks ≤ all_blocks g
-write_front-within g nsid slba blocks e = ltb-false _ _ (none_holds (write_front g nsid slba blocks) e).1.1.0
+write_front-within g nsid slba blocks e = let (_, (_, (beyond, _))) = none_holds (write_front g nsid slba blocks) e in ltb-false _ _ beyond
 
 -- and those of a Read
 pub read_front-within : (g : GeometryFields) (nsid slba blocks : ℕ) → first_holding (read_front g nsid slba blocks) ≡ None → slba + blocks ≤ all_blocks g
-read_front-within g nsid slba blocks e = ltb-false _ _ (none_holds (read_front g nsid slba blocks) e).1.1.0
+read_front-within g nsid slba blocks e = let (_, (_, (beyond, _))) = none_holds (read_front g nsid slba blocks) e in ltb-false _ _ beyond
 
 -- the first block of an Append is a block of the namespace
 pub append_front-within : (g : GeometryFields) (nsid zslba blocks : ℕ) → first_holding (append_front g nsid zslba blocks) ≡ None → zslba < all_blocks g
-append_front-within g nsid zslba blocks e = leb-false _ _ (none_holds (append_front g nsid zslba blocks) e).1.1.0
+append_front-within g nsid zslba blocks e = let (_, (_, (beyond, _))) = none_holds (append_front g nsid zslba blocks) e in leb-false _ _ beyond
 
 -- and that of an excursion
 pub excursion_front-within : (g : GeometryFields) (nsid slba kind : ℕ) → first_holding (excursion_front g nsid slba kind) ≡ None → slba < all_blocks g
-excursion_front-within g nsid slba kind e = leb-false _ _ (none_holds (excursion_front g nsid slba kind) e).1.1.0
+excursion_front-within g nsid slba kind e = let (_, (_, (beyond, _))) = none_holds (excursion_front g nsid slba kind) e in leb-false _ _ beyond
 
 -- what a Send that no row of its front refuses is
 pub record PassesSend (g : GeometryFields) (slba act : ℕ) (all option : Bool) : Type 0 where
@@ -31,4 +31,6 @@ pub record PassesSend (g : GeometryFields) (slba act : ℕ) (all option : Bool) 
   pub has_block : (not all && nat_le (all_blocks g) slba) ≡ false
 
 pub send_front-passes : (g : GeometryFields) (nsid slba act : ℕ) (all option : Bool) → first_holding (send_front g nsid slba act all option) ≡ None → PassesSend g slba act all option
-send_front-passes g nsid slba act all option e = let fails = none_holds (send_front g nsid slba act all option) e in record { not_for_all = fails.1.1.0; has_block = fails.1.1.1.0 }
+send_front-passes g nsid slba act all option e =
+    let (_, (_, (for_all, (blockless, _)))) = none_holds (send_front g nsid slba act all option) e in
+    record { not_for_all = for_all; has_block = blockless }
