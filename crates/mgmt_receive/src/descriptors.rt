@@ -1,46 +1,60 @@
-ghost use Rattle.std.specs.Prelude.{◌≡◌, ◌≤◌, [], ◌∷◌, ◌++◌, List, length, All};
+ghost use Rattle.std.specs.Prelude.{◌≡◌, ◌<◌, ◌/◌, [], ◌∷◌, ◌++◌, List, length, All};
 ghost use Rattle.zone_cell.specs.Cells.{Cell, IsOf};
-ghost use Rattle.mgmt_receive.specs.Receiving.{Given};
+ghost use Rattle.mgmt_receive.specs.Receiving.{Given, Begun};
 
-use crate::filters::passes;
-use zns_types::Geometry;
+use crate::filters::is_wanted;
+use zns_types::{Geometry, State};
 use zone_cell::ZoneCell;
 use zone_descriptor::write;
 
-// Gives the descriptor of a zone after those that are given, where the filter takes the zone and
-// there is room: how many then are given.
-fn give(cell: &ZoneCell, g: &Geometry, filter: u8, given: usize, out: &mut [u8]) -> usize
+/// How far the descriptors of a report go.
+#[derive(Clone, Copy)]
+pub struct Gave {
+    /// How many were given.
+    pub given: usize,
+
+    /// How many cells were looked at for them.
+    pub seen: usize,
+}
+
+// Gives the descriptor of a zone after those that are given, where the zone is wanted: how many
+// then are given.
+fn give(cell: &ZoneCell, g: &Geometry, wanted: Option<State>, given: usize, out: &mut [u8]) -> usize
     requires of { IsOf g.now.fields cell.now }
+    requires room { given < length out.old / 64 }
     ensures { (before : List Cell)
-        → Given g.now.fields filter before (length out.old) given out.old
+        → Given g.now.fields wanted before (length out.old) given out.old
         → Given
         g.now.fields
-        filter
+        wanted
         (before ++ cell.now ∷ [])
         (length out.old)
         result
         out.new }
 {
-    if !passes(filter, cell.state()) {
-        return given;
-    }
-    if out.len() / 64 <= given {
+    if !is_wanted(wanted, cell.state()) {
         return given;
     }
     out[given * 64..(given + 1) * 64].copy_from_slice(&write(&cell.descriptor(g)));
     given + 1
 }
 
-/// Fills `out` with the descriptors of the zones that a filter takes, as many as fit whole, and
-/// zeros after them: how many were given.
-pub fn write_descriptors(cells: &[ZoneCell], g: &Geometry, filter: u8, out: &mut [u8]) -> usize
+/// Fills `out` with the descriptors of the zones that are wanted, as many as fit whole, and zeros
+/// after them. Once there is no more room, no other cell is looked at.
+pub fn give_all(cells: &[ZoneCell], g: &Geometry, wanted: Option<State>, out: &mut [u8]) -> Gave
     requires of { All (IsOf g.now.fields) cells.now }
-    ensures { Given g.now.fields filter cells.now (length out.old) result out.new }
+    ensures { Begun g.now.fields wanted cells.now (length out.old) result out.new }
 {
     out.fill(0);
     let mut given = 0;
     for i in 0..cells.len() {
-        given = give(&cells[i], g, filter, given, out);
+        if out.len() / 64 <= given {
+            return Gave { given, seen: i };
+        }
+        given = give(&cells[i], g, wanted, given, out);
     }
-    given
+    Gave {
+        given,
+        seen: cells.len(),
+    }
 }

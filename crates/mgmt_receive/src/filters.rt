@@ -1,33 +1,30 @@
 ghost use Rattle.std.specs.Prelude.{◌≡◌};
-ghost use Rattle.std.specs.List.{count_by};
-ghost use Rattle.drive_rules.specs.Reports.{passes};
+ghost use Rattle.mgmt_receive.specs.Receiving.{is_wanted, Wants};
 
 use zns_types::State;
-use zone_cell::ZoneCell;
 
-/// Whether a filter takes a state.
-pub fn passes(filter: u8, state: State) -> bool
-    ensures { result ≡ passes filter state }
+/// The state that a filter takes, or none where it takes all of them.
+pub fn wanted_state(filter: u8) -> Option<State>
+    ensures { Wants filter result }
 {
     match filter {
-        0 => true,
-        1 => state.is_empty(),
-        2 => state.is_implicitly_opened(),
-        3 => state == State::ExplicitlyOpened,
-        4 => state.is_closed(),
-        5 => state.is_full(),
-        6 => state.is_read_only(),
-        _ => state.is_offline(),
+        0 => None,
+        1 => Some(State::Empty),
+        2 => Some(State::ImplicitlyOpened),
+        3 => Some(State::ExplicitlyOpened),
+        4 => Some(State::Closed),
+        5 => Some(State::Full),
+        6 => Some(State::ReadOnly),
+        _ => Some(State::Offline),
     }
 }
 
-/// How many zones a filter takes.
-pub fn count_matching(cells: &[ZoneCell], filter: u8) -> usize
-    ensures { result ≡ count_by (λ c. passes filter c.state) cells.now }
+/// Whether a state is the wanted one, or all are wanted.
+pub fn is_wanted(wanted: Option<State>, state: State) -> bool
+    ensures { result ≡ is_wanted wanted state }
 {
-    let mut count = 0;
-    for i in 0..cells.len() {
-        count += usize::from(passes(filter, cells[i].state()));
+    match wanted {
+        None => true,
+        Some(wanted) => state == wanted,
     }
-    count
 }

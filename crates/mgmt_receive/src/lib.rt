@@ -1,6 +1,7 @@
 //! Zone Management Receive: the report of zones.
 #![tactic(auto)]
 
+mod counts;
 mod descriptors;
 mod filters;
 mod head;

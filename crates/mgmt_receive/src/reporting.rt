@@ -4,8 +4,9 @@ ghost use Rattle.drive_rules.specs.Reports.{report};
 ghost use Rattle.zone_cell.specs.Cells.{IsOf, descriptor_of};
 ghost use Rattle.mgmt_receive.specs.Receiving.{report_of};
 
-use crate::descriptors::write_descriptors;
-use crate::filters::count_matching;
+use crate::counts::count_all;
+use crate::descriptors::give_all;
+use crate::filters::wanted_state;
 use crate::head::write_head;
 use zns_types::Geometry;
 use zone_cell::ZoneCell;
@@ -20,12 +21,13 @@ fn fill_report(cells: &[ZoneCell], g: &Geometry, filter: u8, partial: bool, out:
         partial
         (map (descriptor_of g.now.fields) cells.now) }
 {
+    let wanted = wanted_state(filter);
     let head = out.len().min(64);
-    let given = write_descriptors(cells, g, filter, &mut out[head..]);
+    let gave = give_all(cells, g, wanted, &mut out[head..]);
     let number = if partial {
-        given
+        gave.given
     } else {
-        count_matching(cells, filter)
+        count_all(cells, wanted, gave)
     };
     write_head(number as u64, &mut out[..head]);
 }
