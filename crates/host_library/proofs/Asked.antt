@@ -10,7 +10,6 @@ use Rattle.sqe_codec.specs.declared.cmd.Cmd.{Cmd}
 use Rattle.sqe_codec.specs.declared.cmd.Cmd.TheVariants as cmd
 use Rattle.sqe_codec.specs.Writing.{is_admin}
 use Rattle.drive_rules.specs.declared.deed.Deed.{Deed}
-use Rattle.drive_rules.specs.declared.deed.Deed.TheVariants as deed
 use Rattle.drive_rules.specs.Aims.{aim_of, aimed_at, sent_deed, sweep_of}
 use Rattle.drive_rules.specs.Tables.{front_rows}
 use Rattle.zone_model.specs.Places.{is_event_request}
@@ -108,18 +107,17 @@ zone_at-some g lba lt = rw (lt-ltb lba (all_blocks g) lt) refl
 -- A command that no row refuses is about the zone that it names.
 pub front-about : (g : GeometryFields) (k : Cmd) → is_asked g k ≡ true → MovesSome k → first_holding (front_rows g k) ≡ None → zone_about g k ≡ Some (named g k)
 front-about g (cmd.Write nsid slba blocks) e some passes =
-    let fails = none_holds (front_rows g (cmd.Write nsid slba blocks)) passes in
-    let ends : slba + blocks ≤ all_blocks g = ltb-false (all_blocks g) (slba + blocks) fails.1.1.0 in
+    let (_, (_, (beyond, _))) = none_holds (front_rows g (cmd.Write nsid slba blocks)) passes in
+    let ends : slba + blocks ≤ all_blocks g = ltb-false (all_blocks g) (slba + blocks) beyond in
     rw (le-leb (slba + blocks) (all_blocks g) ends) (zone_at-some g slba (omega arith))
 front-about g (cmd.Append nsid zslba blocks) e some passes =
-    let fails = none_holds (front_rows g (cmd.Append nsid zslba blocks)) passes in
-    zone_at-some g zslba (leb-false (all_blocks g) zslba fails.1.1.0)
+    let (_, (_, (no_block, _))) = none_holds (front_rows g (cmd.Append nsid zslba blocks)) passes in
+    zone_at-some g zslba (leb-false (all_blocks g) zslba no_block)
 front-about g (cmd.Send nsid slba act all option) e some passes =
-    let fails = none_holds (front_rows g (cmd.Send nsid slba act all option)) passes in
-    let parts = send_parts act all e in
-    let within : nat_le (all_blocks g) slba ≡ false = rw (parts.one) at (fails.1.1.1.0) in
+    let (_, (_, (_, (no_block, _)))) = none_holds (front_rows g (cmd.Send nsid slba act all option)) passes in
+    let within : nat_le (all_blocks g) slba ≡ false = rw ((send_parts act all e).one) at no_block in
     zone_at-some g slba (leb-false (all_blocks g) slba within)
 front-about g (cmd.Receive nsid slba bytes act filter partial) e some passes =
-    let fails = none_holds (front_rows g (cmd.Receive nsid slba bytes act filter partial)) passes in
-    zone_at-some g slba (leb-false (all_blocks g) slba fails.1.1.1.1.0)
+    let (_, (_, (_, (_, (no_block, _))))) = none_holds (front_rows g (cmd.Receive nsid slba bytes act filter partial)) passes in
+    zone_at-some g slba (leb-false (all_blocks g) slba no_block)
 front-about g _ e some passes = absurd (cc e)

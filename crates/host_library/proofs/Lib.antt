@@ -4,6 +4,7 @@ pub mod Asked
 pub mod ActShadows
 pub mod ReportShadows
 pub mod ShadowLists
+pub mod Replies
 pub mod ToldAnswers
 pub mod Standing
 pub mod Rings

@@ -1,5 +1,5 @@
 -- A report of one zone shows the shadow that the zone of the drive casts.
-use Rattle.std.proofs.Common.{◌≡◌, ℕ, zero, ◌+◌, ◌*◌, ◌-◌, ◌^◌, ◌<◌, ◌≤◌, min, Bool, true, false, cond, List, ◌∷◌, length, get_or, take, drop, refl, sym, ap, ◌∙◌, arith}
+use Rattle.std.proofs.Common.{◌≡◌, ℕ, zero, ◌+◌, ◌*◌, ◌-◌, ◌^◌, ◌<◌, ◌≤◌, min, Bool, true, false, cond, List, ◌∷◌, length, take, drop, refl, sym, ap, ◌∙◌, arith}
 use Rattle.std.specs.Prelude.{◌&&◌, slice_index, slice_range}
 use Rattle.std.proofs.lemmas.List.{drop_more, drop-take}
 use Rattle.std.proofs.lemmas.List.FromFn.{length-map-range_with_len, get_or-map-range_with_len}
@@ -21,7 +21,7 @@ use Rattle.zone_history.proofs.Standing.{stands}
 use Rattle.zone_history.proofs.Ways.{window_active}
 use Rattle.zone_model.specs.declared.act.Act.{Act}
 use Rattle.zone_model.specs.Places.{Place, deeds}
-use Rattle.zone_model.specs.Zones.{state, window, pointer, attributes, zones, descriptor}
+use Rattle.zone_model.specs.Zones.{state, window, pointer, attributes, descriptor}
 use Rattle.zone_model.specs.Replies.{descriptors}
 use Rattle.zone_model.specs.Answers.{answered}
 use Rattle.zone_model.proofs.Deeds.{all_admitted}

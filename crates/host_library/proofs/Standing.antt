@@ -11,7 +11,6 @@ use Rattle.zone_model.specs.Places.{command_of}
 use Rattle.zone_model.specs.Answers.{status, answered}
 use Rattle.zone_model.specs.Replies.{reply_bytes}
 use Rattle.host_library.specs.declared.shadow.Shadow.{Shadow}
-use Rattle.host_library.specs.declared.host_err.HostErr.TheVariants as error
 use Rattle.host_library.specs.Links.{IsAnswered, Gains, MayGain}
 use Rattle.host_library.specs.Shadows.{unknown}
 use Rattle.host_library.specs.Asking.{IsAsked, zone_about, shadow_done}

@@ -1,8 +1,7 @@
 -- What an answer says where the link tells its history.
-use Rattle.std.proofs.Common.{◌≡◌, ℕ, ◌+◌, ◌<◌, min, Bool, true, false, cond, List, [], ◌∷◌, ◌++◌, length, take, drop, Option, Some, None, refl, sym, ap, ◌∙◌, subst, arith, length-append}
-use Rattle.std.specs.Prelude.{◌==◌, ◌&&◌, filter, replicate, slice_get}
+use Rattle.std.proofs.Common.{◌≡◌, ℕ, ◌<◌, Bool, true, false, List, [], ◌∷◌, ◌++◌, length, take, drop, Option, Some, None, refl, sym, ap, ◌∙◌, subst}
+use Rattle.std.specs.Prelude.{◌==◌, ◌&&◌, filter, slice_get}
 use Rattle.std.proofs.lemmas.Bool.{and_parts, eqb-true}
-use Rattle.std.proofs.lemmas.List.{length-take, length-replicate}
 use Rattle.zns_types.specs.declared.fields.GeometryFields.{GeometryFields}
 use Rattle.zns_types.specs.Geometry.{IsGeometry, zone_of}
 use Rattle.zns_types.specs.Statuses.{is_success}
@@ -11,8 +10,7 @@ use Rattle.sqe_codec.specs.declared.cmd.Cmd.TheVariants as cmd
 use Rattle.sqe_codec.specs.Commands.{cid_of}
 use Rattle.cqe_codec.specs.Entries.{sets_unused, Spells}
 use Rattle.drive_rules.specs.declared.deed.Deed.{Deed}
-use Rattle.byteorder.specs.Endian.{little_bytes}
-use Rattle.drive_rules.specs.Reports.{passes, bytes_of_all, fitting, report, first_bytes}
+use Rattle.drive_rules.specs.Reports.{report}
 use Rattle.zone_descriptor.specs.declared.descriptor.Descriptor.{Descriptor}
 use Rattle.zone_model.specs.declared.act.Act.{Act}
 use Rattle.zone_model.specs.Places.{Place, command_of, is_event_request}
@@ -28,6 +26,7 @@ use Rattle.host_library.specs.Pumping.{verdict_of, verdict_told}
 use Rattle.host_library.proofs.Asked.{named}
 use Rattle.host_library.proofs.ActShadows.{own-shadow}
 use Rattle.host_library.proofs.ReportShadows.{reported, descriptor-shown}
+use Rattle.host_library.proofs.Replies.{reply-success, length-report}
 
 -- ---- entries
 
@@ -64,20 +63,6 @@ verdict-told g h a bytes len other first e =
     rw (r.whole, kind, code, low, high, e) refl
 
 -- ---- bytes
-
-reply-success : (g : GeometryFields) (h : List Place) (a : Act) → is_success (status g h a) ≡ true → reply_bytes g h a ≡ read_by g h (command_of a)
-unfolding reply_bytes
-reply-success g h a ok = rw ok refl
-
-length-first_bytes : (len : ℕ) (bytes : List ℕ) → length (first_bytes len bytes) ≡ len
-length-first_bytes len bytes =
-    length-take len (bytes ++ replicate len 0) ∙ ap (min len) (length-append bytes (replicate len 0) ∙ ap (λ (n : ℕ). length bytes + n) (length-replicate len 0)) ∙ omega arith
-
-length-report : (len kind : ℕ) (partial : Bool) (ds : List Descriptor) → length (report len kind partial ds) ≡ len
-length-report len kind partial ds =
-    let matching = filter (λ (d : Descriptor). passes kind d.state) ds in
-    let number = cond partial (length (fitting len matching)) (length matching) in
-    length-first_bytes len (little_bytes 8 number ++ replicate 56 0 ++ bytes_of_all (fitting len matching))
 
 same_report : (m n i j : ℕ) (p q : Bool) (ds : List Descriptor) → m ≡ n → i ≡ j → p ≡ q → report m i p ds ≡ report n j q ds
 same_report m n i j p q ds e f k = ap (λ (x : ℕ). report x i p ds) e ∙ ap (λ (x : ℕ). report n x p ds) f ∙ ap (λ (x : Bool). report n j x ds) k

@@ -50,15 +50,7 @@ script_passed bytes h k f = first_holding-append_none (header_rows bytes) (host_
 
 -- ---- where no rule is broken
 
--- what was read
-pub record WasRead (bytes : List ℕ) (g : GeometryFields) (found : List Line) : Type 0 where
-  pub geometry : g ≡ geometry_in bytes
-  pub valid : IsGeometry g
-  pub header : first_holding (header_rows bytes) ≡ None
-  pub host : first_holding (host_rows bytes) ≡ None
-  pub rest : first_holding (lines_rows g 0 64 0 (lines_in (drop 64 bytes))) ≡ None
-  pub lines : found ≡ filter_map (line_in g) (lines_in (drop 64 bytes))
-
+-- what was read is a script
 pub record WasScript (bytes : List ℕ) (s : Scripted) : Type 0 where
   pub script : IsScript s
   pub spelled : bytes ≡ script_text s
@@ -70,7 +62,7 @@ record HostHeader (bytes : List ℕ) : Type 0 where
 
 host_header : (bytes : List ℕ) → first_holding (host_rows bytes) ≡ None → HostHeader bytes
 unfolding host_rows
-host_header bytes e = let fails = none_holds (host_rows bytes) e in record { queues = grind (arith, nat_tests, fails.0); count = grind (arith, nat_tests, fails.1.0) }
+host_header bytes e = let (few, (some, _)) = none_holds (host_rows bytes) e in record { queues = grind (arith, nat_tests, few); count = grind (arith, nat_tests, some) }
 
 -- a header without commands is the spelling of the session without them
 record IsHeader (bytes : List ℕ) : Type 0 where
@@ -87,27 +79,29 @@ is_header bytes fits valid header none =
       spelled = rw none at front.spelled;
     }
 
-pub was_script : (bytes : List ℕ) (g : GeometryFields) (lines : List Line) → ((i : ℕ) → slice_index bytes i < 256) → WasRead bytes g lines → WasScript bytes (record { geometry = g; lines = lines })
+pub was_script : (bytes : List ℕ) (g : GeometryFields) (lines : List Line) → ((i : ℕ) → slice_index bytes i < 256) → g ≡ geometry_in bytes → IsGeometry g
+    → first_holding (header_rows bytes) ≡ None → first_holding (host_rows bytes) ≡ None → first_holding (lines_rows g 0 64 0 (lines_in (drop 64 bytes))) ≡ None
+    → lines ≡ filter_map (line_in g) (lines_in (drop 64 bytes)) → WasScript bytes (record { geometry = g; lines = lines })
 unfolding script_text
-was_script bytes g lines fits was =
-    let host = host_header bytes was.host in
+was_script bytes g lines fits geometry valid header no_host rest found =
+    let host = host_header bytes no_host in
     let P : GeometryFields → Type 0 = IsGeometry in
-    let head = is_header bytes fits (subst P was.geometry was.valid) was.header host.count in
-    let are : AreLines g 0 0 (lines_in (drop 64 bytes)) (filter_map (line_in g) (lines_in (drop 64 bytes))) = are_lines (lines_in (drop 64 bytes)) g 0 64 0 (omega arith) (omega arith) was.rest in
+    let head = is_header bytes fits (subst P geometry valid) header host.count in
+    let are : AreLines g 0 0 (lines_in (drop 64 bytes)) (filter_map (line_in g) (lines_in (drop 64 bytes))) = are_lines (lines_in (drop 64 bytes)) g 0 64 0 (omega arith) (omega arith) rest in
     let Q : GeometryFields → Type 0 = λ of. IsSession (no_commands of) in
     let R : GeometryFields → Type 0 = λ of. 2 ≤ of.queues in
     record {
       script = record {
-        header = subst Q (sym was.geometry) head.session;
-        queues = subst R (sym was.geometry) host.queues;
-        count = rw was.lines (let few = are.count in omega arith);
-        lines = rw was.lines (All-from_recursion (IsLine g) (filter_map (line_in g) (lines_in (drop 64 bytes))) are.valid);
-        sent = rw was.lines (let small = are.sent in omega arith);
+        header = subst Q (sym geometry) head.session;
+        queues = subst R (sym geometry) host.queues;
+        count = rw found (let few = are.count in omega arith);
+        lines = rw found (All-from_recursion (IsLine g) (filter_map (line_in g) (lines_in (drop 64 bytes))) are.valid);
+        sent = rw found (let small = are.sent in omega arith);
       };
       spelled = sym head.spelled
-          ∙ ap (λ (of : GeometryFields). spelling (no_commands of) ++ drop 64 bytes) (sym was.geometry)
-          ∙ ap (λ (rest : List ℕ). spelling (no_commands g) ++ rest) (sym (concat-lines_in (drop 64 bytes)) ∙ sym are.spelled ∙ ap (flat_map line_text) (sym was.lines));
-      passed = script_passed bytes was.header was.host (let S : GeometryFields → Type 0 = λ of. first_holding (lines_rows of 0 64 0 (lines_in (drop 64 bytes))) ≡ None in subst S was.geometry was.rest);
+          ∙ ap (λ (of : GeometryFields). spelling (no_commands of) ++ drop 64 bytes) (sym geometry)
+          ∙ ap (λ (back : List ℕ). spelling (no_commands g) ++ back) (sym (concat-lines_in (drop 64 bytes)) ∙ sym are.spelled ∙ ap (flat_map line_text) (sym found));
+      passed = script_passed bytes header no_host (let S : GeometryFields → Type 0 = λ of. first_holding (lines_rows of 0 64 0 (lines_in (drop 64 bytes))) ≡ None in subst S geometry rest);
     }
 
 -- ---- bytes that are a script
@@ -151,8 +145,9 @@ same_script : (g : GeometryFields) (lines : List Line) (s : Scripted) → g ≡ 
 same_script g lines s e f = rw (e, f) refl
 
 -- what was read is the script that the bytes are
-pub was_whole : (bytes : List ℕ) (g : GeometryFields) (lines : List Line) (s : Scripted) → WasRead bytes g lines → IsScript s → bytes ≡ script_text s → record { geometry = g; lines = lines } ≡ s
-was_whole bytes g lines s was is e =
+pub was_whole : (bytes : List ℕ) (g : GeometryFields) (lines : List Line) (s : Scripted) → g ≡ geometry_in bytes → lines ≡ filter_map (line_in g) (lines_in (drop 64 bytes)) → IsScript s → bytes ≡ script_text s
+    → record { geometry = g; lines = lines } ≡ s
+was_whole bytes g lines s geometry found is e =
     let whole = is_whole bytes s is e in
-    let same : g ≡ s.geometry = was.geometry ∙ whole.geometry in
-    same_script g lines s same (was.lines ∙ ap (λ (of : GeometryFields). filter_map (line_in of) (lines_in (drop 64 bytes))) same ∙ whole.lines)
+    let same : g ≡ s.geometry = geometry ∙ whole.geometry in
+    same_script g lines s same (found ∙ ap (λ (of : GeometryFields). filter_map (line_in of) (lines_in (drop 64 bytes))) same ∙ whole.lines)

@@ -6,7 +6,7 @@ use Rattle.std.proofs.lemmas.Bool.Decides.{nat_tests}
 use Rattle.zns_types.specs.declared.fields.GeometryFields.{GeometryFields}
 use Rattle.zns_types.specs.Geometry.{IsGeometry}
 use Rattle.zns_types.specs.Rows.{first_holding}
-use Rattle.zns_types.proofs.RowLemmas.{NoneHolds, none_holds}
+use Rattle.zns_types.proofs.RowLemmas.{none_holds}
 use Rattle.session_file.proofs.RowSplits.{first_holding-parts}
 use Rattle.text_lines.specs.Texts.{line_feed, spaced}
 use Rattle.text_lines.specs.Cuts.{lines_in}
@@ -37,11 +37,11 @@ pub are_lines : (texts : List (List ℕ)) (g : GeometryFields) (number at sent :
 unfolding lines_rows line_rows
 are_lines [] g number at sent few small e = record { spelled = refl; valid = tt; count = omega arith; sent = omega arith }
 are_lines (text ∷ texts) g number at sent few small e =
-    let split = first_holding-parts (line_rows g number at sent text) (lines_rows g (number + 1) (at + length text) (sent + sent_by g (line_in g text)) texts) e in
-    let fails : NoneHolds (line_rows g number at sent text) = none_holds (line_rows g number at sent text) split.0 in
-    by_line (line_in g text) refl fails.1.0 fails.1.1.0 (λ l is. are_lines texts g (number + 1) (at + length text) (sent + data_len g l)
-    (grind (arith, nat_tests, fails.0)) (let fits : nat_lt (2 ^ 27) (sent + data_len g l) ≡ false = rw is at fails.1.1.0 in grind (arith, nat_tests))
-    (rw is at split.1))
+    let (line, rest) = first_holding-parts (line_rows g number at sent text) (lines_rows g (number + 1) (at + length text) (sent + sent_by g (line_in g text)) texts) e in
+    let (many, (unread, (much, _))) = none_holds (line_rows g number at sent text) line in
+    by_line (line_in g text) refl unread much (λ l is. are_lines texts g (number + 1) (at + length text) (sent + data_len g l)
+    (grind (arith, nat_tests, many)) (let fits : nat_lt (2 ^ 27) (sent + data_len g l) ≡ false = rw is at much in grind (arith, nat_tests))
+    (rw is at rest))
   where
     by_line : (o : Option Line) → line_in g text ≡ o → not (is_some o) ≡ false → nat_lt (2 ^ 27) (sent + sent_by g o) ≡ false
         → ((l : Line) → line_in g text ≡ Some l → AreLines g (number + 1) (sent + data_len g l) texts (filter_map (line_in g) texts)) → AreLines g number sent (text ∷ texts) (filter_map (line_in g) (text ∷ texts))

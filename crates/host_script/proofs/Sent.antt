@@ -1,20 +1,17 @@
 -- One line of a script, from its command to the line that is written for it.
-use Rattle.std.proofs.Common.{◌≡◌, ℕ, ◌+◌, ◌*◌, ◌%◌, ◌^◌, ◌<◌, ◌≤◌, min, Bool, true, false, cond, List, [], ◌∷◌, ◌++◌, length, take, drop, Option, Some, Result, Ok, Err, refl, sym, ap, ◌∙◌, subst, arith, length-append}
-use Rattle.std.specs.Prelude.{◌==◌, replicate, slice_get, filter}
+use Rattle.std.proofs.Common.{◌≡◌, ℕ, ◌+◌, ◌*◌, ◌%◌, ◌^◌, ◌<◌, ◌≤◌, Bool, true, false, cond, List, [], ◌∷◌, ◌++◌, length, take, drop, Option, Some, Result, Ok, Err, refl, sym, ap, ◌∙◌, subst, arith, length-append}
+use Rattle.std.specs.Prelude.{◌==◌, slice_get}
 use Rattle.std.proofs.lemmas.Bool.Decides.{nat_tests}
-use Rattle.std.proofs.lemmas.List.{length-take, length-replicate}
 use Rattle.std.proofs.Math.Seq.{take-length}
-use Rattle.byteorder.specs.Endian.{little_bytes}
 use Rattle.zns_types.specs.declared.fields.GeometryFields.{GeometryFields}
 use Rattle.zns_types.specs.Geometry.{IsGeometry, first, zone_of}
 use Rattle.zns_types.specs.Statuses.{Status, is_success}
 use Rattle.sqe_codec.specs.declared.cmd.Cmd.{Cmd}
 use Rattle.sqe_codec.specs.Commands.{cid_of}
 use Rattle.cqe_codec.specs.declared.cqe.Cqe.{Cqe}
-use Rattle.zone_descriptor.specs.declared.descriptor.Descriptor.{Descriptor}
-use Rattle.drive_rules.specs.Reports.{passes, bytes_of_all, fitting, report, first_bytes}
+use Rattle.drive_rules.specs.Reports.{report}
 use Rattle.zone_model.specs.declared.act.Act.{Act}
-use Rattle.zone_model.specs.Places.{Place, command_of}
+use Rattle.zone_model.specs.Places.{Place}
 use Rattle.zone_model.specs.Answers.{status, answered}
 use Rattle.zone_model.specs.Entries.{dwords_of, own_entry, posted}
 use Rattle.zone_model.specs.Replies.{read_by, reply_bytes, descriptors}
@@ -26,6 +23,7 @@ use Rattle.host_library.specs.Links.{Answer}
 use Rattle.host_library.specs.Asking.{act_for}
 use Rattle.host_library.specs.Hosts.{Hosted, after_put, next_number}
 use Rattle.host_library.specs.Pumping.{verdict_by, verdict_told, pumped, ring_after, Sends, IsTold}
+use Rattle.host_library.proofs.Replies.{reply-success, length-report}
 use Rattle.host_library.proofs.ToldAnswers.{posted-first}
 use Rattle.host_script.specs.declared.line.Line.{Line}
 use Rattle.host_script.specs.declared.line.Line.TheVariants as the_line
@@ -123,26 +121,13 @@ lba-first : (entries : List Cqe) (own : Cqe) → slice_get entries 0 ≡ Some ow
 lba-first [] own e = absurd (cc e)
 lba-first (c ∷ entries) own e = let same : c ≡ own = cc in ap (λ (x : Cqe). x.dw0 + 2 ^ 32 * x.dw1) same
 
-length-first_bytes : (len : ℕ) (bytes : List ℕ) → length (first_bytes len bytes) ≡ len
-length-first_bytes len bytes =
-    length-take len (bytes ++ replicate len 0) ∙ ap (min len) (length-append bytes (replicate len 0) ∙ ap (λ (n : ℕ). length bytes + n) (length-replicate len 0)) ∙ omega arith
-
-length-report : (ds : List Descriptor) → length (report 128 0 true ds) ≡ 128
-length-report ds =
-    let matching = filter (λ (d : Descriptor). passes 0 d.state) ds in
-    length-first_bytes 128 (little_bytes 8 (cond true (length (fitting 128 matching)) (length matching)) ++ replicate 56 0 ++ bytes_of_all (fitting 128 matching))
-
-reply-success : (g : GeometryFields) (h : List Place) (a : Act) → is_success (status g h a) ≡ true → reply_bytes g h a ≡ read_by g h (command_of a)
-unfolding reply_bytes
-reply-success g h a ok = rw ok refl
-
 -- all of the room is the report that was read
 report-read : (g : GeometryFields) (h : List Place) (number zone : ℕ) (out : List ℕ) → IsGeometry g → zone < g.zones → length out ≡ 128 → is_success (status g h (act_of_line g number (the_line.Report zone))) ≡ true
     → take (length (reply_bytes g h (act_of_line g number (the_line.Report zone)))) out ≡ reply_bytes g h (act_of_line g number (the_line.Report zone)) → out ≡ reply_bytes g h (act_of_line g number (the_line.Report zone))
 report-read g h number zone out valid lt room ok read =
     let a = act_of_line g number (the_line.Report zone) in
     let reply : reply_bytes g h a ≡ report 128 0 true (drop (zone_of g (first g zone)) (descriptors g h)) = reply-success g h a ok ∙ ap (read_by g h) (command_of-line g number (the_line.Report zone) valid lt) in
-    let long : length (reply_bytes g h a) ≡ 128 = ap (λ (bytes : List ℕ). length bytes) reply ∙ length-report (drop (zone_of g (first g zone)) (descriptors g h)) in
+    let long : length (reply_bytes g h a) ≡ 128 = ap (λ (bytes : List ℕ). length bytes) reply ∙ length-report 128 0 true (drop (zone_of g (first g zone)) (descriptors g h)) in
     sym (take-length out) ∙ ap (λ (n : ℕ). take n out) (room ∙ sym long) ∙ read
 
 -- what the line of a command says that was done

@@ -7,6 +7,7 @@ use Rattle.zns_types.specs.Geometry.{IsGeometry}
 use Rattle.zns_types.specs.Rows.{Row, first_holding}
 use Rattle.zns_types.proofs.RowLemmas.{first_holding-append_some, first_holding-append_none, none_answers}
 use Rattle.zone_model.specs.declared.act.Act.{Act}
+use Rattle.zone_model.specs.Sessions.{Recorded}
 use Rattle.session_file.specs.declared.file_err.Reason.TheVariants as reason
 use Rattle.session_file.specs.declared.file_err.FileErr.{FileErr}
 use Rattle.session_file.specs.declared.file_err.FileErr.TheVariants.{NoMemory, Bad, Large}
@@ -51,29 +52,26 @@ front-records bytes g n e same count h f =
     first_of-back (header_rows bytes) (records_rows (count_in bytes) (geometry_in bytes) bytes 64 0 0) e h there
 
 -- what was read of bytes in which no rule is broken
-pub record WasRead (bytes : List ℕ) (fields : GeometryFields) (commands : ℕ) (acts : List Act) (end : ℕ) : Type 0 where
-  pub geometry : fields ≡ geometry_in bytes
-  pub count : commands ≡ count_in bytes
-  pub all : acts ≡ acts_from commands 64 bytes
-  pub last : end ≡ end_from commands 64 bytes
-  pub valid : IsGeometry fields
-  pub header : first_holding (header_rows bytes) ≡ None
-  pub records : first_holding (records_rows commands fields bytes 64 0 0) ≡ None
+pub record WasRead (bytes : List ℕ) (read : Recorded) (end : ℕ) : Type 0 where
+  pub session : read ≡ session_in bytes
+  pub last : end ≡ session_end bytes
+  pub passed : first_holding (front_rows bytes) ≡ None
+  pub front : IsFront bytes
 
-pub read-session : (bytes : List ℕ) (fields : GeometryFields) (commands : ℕ) (acts : List Act) (end : ℕ) → WasRead bytes fields commands acts end → record { geometry = fields; acts = acts } ≡ session_in bytes
-read-session bytes fields commands acts end r = rw (r.all, r.count, r.geometry) refl
-
-pub read-end : (bytes : List ℕ) (fields : GeometryFields) (commands : ℕ) (acts : List Act) (end : ℕ) → WasRead bytes fields commands acts end → end ≡ session_end bytes
-read-end bytes fields commands acts end r = rw (r.last, r.count) refl
-
-pub read-passed : (bytes : List ℕ) (fields : GeometryFields) (commands : ℕ) (acts : List Act) (end : ℕ) → WasRead bytes fields commands acts end → first_holding (front_rows bytes) ≡ None
+-- a header, and as many acts as it says
+pub was_read : (bytes : List ℕ) (g : GeometryFields) (commands : ℕ) (acts : List Act) (end : ℕ) → ((i : ℕ) → slice_index bytes i < 256) → g ≡ geometry_in bytes → IsGeometry g → commands ≡ count_in bytes
+    → first_holding (header_rows bytes) ≡ None → acts ≡ acts_from commands 64 bytes → end ≡ end_from commands 64 bytes → first_holding (records_rows commands g bytes 64 0 0) ≡ None
+    → WasRead bytes (record { geometry = g; acts = acts }) end
 unfolding front_rows
-read-passed bytes fields commands acts end r =
-    let rest : first_holding (records_rows (count_in bytes) (geometry_in bytes) bytes 64 0 0) ≡ None = rw (← r.count, ← r.geometry) r.records in
-    first_holding-append_none (header_rows bytes) (records_rows (count_in bytes) (geometry_in bytes) bytes 64 0 0) r.header ∙ rest
-
-pub read-front : (bytes : List ℕ) (fields : GeometryFields) (commands : ℕ) (acts : List Act) (end : ℕ) → ((i : ℕ) → slice_index bytes i < 256) → WasRead bytes fields commands acts end → IsFront bytes
-read-front bytes fields commands acts end fits r = is_front bytes fits (rw (← r.geometry) r.valid) (read-passed bytes fields commands acts end r)
+was_read bytes g commands acts end fits geometry valid count header all last records =
+    let rest : first_holding (records_rows (count_in bytes) (geometry_in bytes) bytes 64 0 0) ≡ None = rw (← count, ← geometry) records in
+    let passed : first_holding (front_rows bytes) ≡ None = first_holding-append_none (header_rows bytes) (records_rows (count_in bytes) (geometry_in bytes) bytes 64 0 0) header ∙ rest in
+    record {
+      session = rw (all, count, geometry) refl;
+      last = rw (last, count) refl;
+      passed = passed;
+      front = is_front bytes fits (rw (← geometry) valid) passed;
+    }
 
 -- ---- all of it
 

@@ -10,7 +10,7 @@ use Rattle.zns_types.specs.Fields.{field}
 use Rattle.zns_types.specs.Geometry.{IsGeometry}
 use Rattle.zns_types.specs.Rows.{first_holding}
 use Rattle.zns_types.specs.Rules.{rules}
-use Rattle.zns_types.proofs.RowLemmas.{NoneHolds, none_holds, none_answers, first_holding-append_none}
+use Rattle.zns_types.proofs.RowLemmas.{none_holds, none_answers, first_holding-append_none}
 use Rattle.zone_model.specs.Sessions.{Recorded, IsSession, IsAct, spelling, header_bytes, record_bytes}
 use Rattle.session_file.specs.Places.{geometry_in, count_in, acts_from, end_from, session_in, session_end}
 use Rattle.session_file.specs.FileRules.{on_header, start_rows, end_rows, header_rows, records_rows, front_rows}
@@ -39,13 +39,13 @@ heads-passed : (bytes : List ℕ) → first_holding (header_rows bytes) ≡ None
 unfolding header_rows start_rows end_rows
 heads-passed bytes e =
     let split = first_holding-parts (start_rows bytes) (map on_header (rules (geometry_in bytes)) ++ end_rows bytes) e in
-    let start : NoneHolds (start_rows bytes) = none_holds (start_rows bytes) split.0 in
-    let end : NoneHolds (end_rows bytes) = none_holds (end_rows bytes) (first_holding-parts (map on_header (rules (geometry_in bytes))) (end_rows bytes) split.1).1 in
+    let (short, (unlike, _)) = none_holds (start_rows bytes) split.0 in
+    let (many, (nonzero, _)) = none_holds (end_rows bytes) (first_holding-parts (map on_header (rules (geometry_in bytes))) (end_rows bytes) split.1).1 in
     record {
-      long = grind (arith, nat_tests, start.0);
-      magic = (bytes_eq-Decides (take 8 bytes) (codes "ZNSQ0001")).0 (not_false _ start.1.0);
-      few = grind (arith, nat_tests, end.0);
-      zeros = grind (arith, nat_tests, end.1.0);
+      long = grind (arith, nat_tests, short);
+      magic = (bytes_eq-Decides (take 8 bytes) (codes "ZNSQ0001")).0 (not_false _ unlike);
+      few = grind (arith, nat_tests, many);
+      zeros = grind (arith, nat_tests, nonzero);
     }
 
 -- what begins with a header, where no rule of it is broken

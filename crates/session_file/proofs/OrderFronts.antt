@@ -11,7 +11,7 @@ use Rattle.byteorder.specs.Numbers.{little_number-reads_back}
 use Rattle.zns_types.specs.Fields.{field}
 use Rattle.zns_types.specs.Rows.{first_holding}
 use Rattle.zns_types.proofs.FieldLemmas.{little_bytes-field}
-use Rattle.zns_types.proofs.RowLemmas.{NoneHolds, none_holds, none_answers, first_holding-append_none}
+use Rattle.zns_types.proofs.RowLemmas.{none_holds, none_answers, first_holding-append_none}
 use Rattle.zone_model.specs.declared.act.Act.{Act}
 use Rattle.zone_model.specs.Sessions.{Recorded, IsSession, IsAct, IsOrder, order_bytes}
 use Rattle.session_file.specs.declared.file_err.FileErr.{FileErr}
@@ -31,11 +31,11 @@ pub record Heads (bytes : List ℕ) (from n : ℕ) : Type 0 where
 heads-passed : (bytes : List ℕ) (from n : ℕ) → first_holding (order_front_rows bytes from n) ≡ None → Heads bytes from n
 unfolding order_front_rows
 heads-passed bytes from n e =
-    let h : NoneHolds (order_front_rows bytes from n) = none_holds (order_front_rows bytes from n) e in
+    let (short, (unlike, (other_count, _))) = none_holds (order_front_rows bytes from n) e in
     record {
-      long = grind (arith, nat_tests, h.0);
-      magic = (bytes_eq-Decides (take 8 (drop from bytes)) (codes "ZNSR0001")).0 (not_false _ h.1.0);
-      count = grind (arith, nat_tests, h.1.1.0);
+      long = grind (arith, nat_tests, short);
+      magic = (bytes_eq-Decides (take 8 (drop from bytes)) (codes "ZNSR0001")).0 (not_false _ unlike);
+      count = grind (arith, nat_tests, other_count);
     }
 
 passed-heads : (bytes : List ℕ) (from n : ℕ) → Heads bytes from n → first_holding (order_front_rows bytes from n) ≡ None

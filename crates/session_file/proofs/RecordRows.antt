@@ -4,7 +4,7 @@ use Rattle.std.proofs.lemmas.Bool.Decides.{nat_tests}
 use Rattle.zns_types.specs.declared.fields.GeometryFields.{GeometryFields}
 use Rattle.zns_types.specs.Fields.{field}
 use Rattle.zns_types.specs.Rows.{first_holding}
-use Rattle.zns_types.proofs.RowLemmas.{NoneHolds, none_holds, none_answers}
+use Rattle.zns_types.proofs.RowLemmas.{none_holds, none_answers}
 use Rattle.sqe_codec.specs.Commands.{transfer_len, reply_len}
 use Rattle.zone_model.specs.Places.{command_of}
 use Rattle.session_file.specs.Places.{length_at, act_at, next_at}
@@ -22,14 +22,14 @@ pub record Passes (g : GeometryFields) (bytes : List ℕ) (at sent asked : ℕ) 
 pub passes-record : (g : GeometryFields) (bytes : List ℕ) (at sent asked : ℕ) → first_holding (record_rows g bytes at sent asked) ≡ None → Passes g bytes at sent asked
 unfolding record_rows
 passes-record g bytes at sent asked e =
-    let h : NoneHolds (record_rows g bytes at sent asked) = none_holds (record_rows g bytes at sent asked) e in
+    let (_, (no_queue, (nonzero, (other_len, (much_sent, (much_asked, (beyond, _))))))) = none_holds (record_rows g bytes at sent asked) e in
     record {
-      queue = grind (arith, nat_tests, h.1.0);
-      zeros = grind (arith, nat_tests, h.1.1.0);
-      len = grind (arith, nat_tests, h.1.1.1.0);
-      few_sent = grind (arith, nat_tests, h.1.1.1.1.0);
-      few_asked = grind (arith, nat_tests, h.1.1.1.1.1.0);
-      within = grind (arith, nat_tests, h.1.1.1.1.1.1.0);
+      queue = grind (arith, nat_tests, no_queue);
+      zeros = grind (arith, nat_tests, nonzero);
+      len = grind (arith, nat_tests, other_len);
+      few_sent = grind (arith, nat_tests, much_sent);
+      few_asked = grind (arith, nat_tests, much_asked);
+      within = grind (arith, nat_tests, beyond);
     }
 
 -- and the other way round

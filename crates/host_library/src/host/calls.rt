@@ -1,6 +1,6 @@
 //! The calls that put a command into the ring.
 ghost use Rattle.std.specs.Prelude.{◌≡◌, ◌<◌, []};
-ghost use Rattle.host_library.specs.Asking.{IsData, IsCommand, blocks_in, write_at, append_to, put_at, open_with_window, commit_to, reset_of, report_of};
+ghost use Rattle.host_library.specs.Asking.{IsData, IsCommand, blocks_in, write_at, append_to, put_at, sent_to, open_with_window, commit_to, reset_of, report_of};
 ghost use Rattle.host_library.specs.Hosts.{put_gives, after_put};
 
 use crate::asking::{COMMIT, OPEN, QUEUE, REPORT_LEN, RESET};
@@ -100,6 +100,25 @@ impl<L: Link> Host<L> {
         self.write(lba, payload)
     }
 
+    // Puts a Zone Management Send to the zone of a block at the ring's back.
+    fn send(&mut self, slba: u64, action: u8, option: bool) -> Result<u16, HostErr>
+        requires { IsCommand self.old.geometry (sent_to slba action option) [] }
+        ensures result { result ≡ put_gives self.old [] }
+        ensures host { self.new ≡ after_put self.old (sent_to slba action option) [] }
+    {
+        let payload = Bytes::empty(self.alloc);
+        self.put(
+            &Cmd::Send {
+                nsid: NAMESPACE,
+                slba,
+                action,
+                all: false,
+                option,
+            },
+            payload,
+        )
+    }
+
     /// Puts an open of a zone with a random write area at the ring's back. The answers are those of
     /// `write`; no host data comes back.
     pub fn open_window(&mut self, zone: u32) -> Result<u16, HostErr>
@@ -108,17 +127,7 @@ impl<L: Link> Host<L> {
         ensures host { self.new ≡ after_put self.old (open_with_window self.old.geometry zone) [] }
     {
         let slba = self.geometry.first(zone);
-        let payload = Bytes::empty(self.alloc);
-        self.put(
-            &Cmd::Send {
-                nsid: NAMESPACE,
-                slba,
-                action: OPEN,
-                all: false,
-                option: true,
-            },
-            payload,
-        )
+        self.send(slba, OPEN, true)
     }
 
     /// Puts a commit of a zone's random write area at the ring's back, up to the block at the offset
@@ -130,17 +139,7 @@ impl<L: Link> Host<L> {
         ensures host { self.new ≡ after_put self.old (commit_to self.old.geometry zone last) [] }
     {
         let slba = self.geometry.first(zone) + last;
-        let payload = Bytes::empty(self.alloc);
-        self.put(
-            &Cmd::Send {
-                nsid: NAMESPACE,
-                slba,
-                action: COMMIT,
-                all: false,
-                option: false,
-            },
-            payload,
-        )
+        self.send(slba, COMMIT, false)
     }
 
     /// Puts a reset of a zone at the ring's back. The answers are those of `open_window`.
@@ -150,17 +149,7 @@ impl<L: Link> Host<L> {
         ensures host { self.new ≡ after_put self.old (reset_of self.old.geometry zone) [] }
     {
         let slba = self.geometry.first(zone);
-        let payload = Bytes::empty(self.alloc);
-        self.put(
-            &Cmd::Send {
-                nsid: NAMESPACE,
-                slba,
-                action: RESET,
-                all: false,
-                option: false,
-            },
-            payload,
-        )
+        self.send(slba, RESET, false)
     }
 
     /// Puts a report of one zone at the ring's back, of 128 bytes. The answers are those of

@@ -5,7 +5,7 @@ use Rattle.session_file.specs.Faults.{IsFirstOf}
 use Rattle.session_file.proofs.Firsts.{no_memory}
 use Rattle.text_lines.specs.Cuts.{lines_in}
 use Rattle.host_script.specs.ScriptRules.{lines_rows, script_rows}
-use Rattle.host_script.proofs.Fronts.{WasRead, header_first, host_first, rest_first, was_script, was_whole, whole-passed}
+use Rattle.host_script.proofs.Fronts.{WasScript, header_first, host_first, rest_first, was_script, was_whole, whole-passed}
 use Rattle.host_script.proofs.reading.read.Goals as goal
 
 pub returns-in_err-header-clause-complete : goal.returns-in_err-header-clause-complete
@@ -44,48 +44,24 @@ returns-in_err-lines-clause-broken c =
 
 pub new-requires : goal.new-requires
 new-requires c =
-    let was : WasRead c.args.bytes.now c.in_ok-header.header.geometry.fields c.in_ok-lines.lines.items = record {
-      geometry = c.in_ok-header.ensures.geometry;
-      valid = c.in_ok-header.header.geometry.valid;
-      header = c.in_ok-header.ensures.passed;
-      host = c.in_ok-check_header.ensures.passed;
-      rest = c.in_ok-lines.ensures.passed;
-      lines = c.in_ok-lines.ensures.lines;
-    } in
-    (was_script c.args.bytes.now c.in_ok-header.header.geometry.fields c.in_ok-lines.lines.items (search rules) was).script
+    let header = c.in_ok-header.header.geometry in
+    let first = c.in_ok-header.ensures in
+    let rest = c.in_ok-lines.ensures in
+    (was_script c.args.bytes.now header.fields c.in_ok-lines.lines.items (search rules) first.geometry header.valid first.passed c.in_ok-check_header.ensures.passed rest.passed rest.lines).script
 
-pub returns-clause-spelled : goal.returns-clause-spelled
-returns-clause-spelled c =
-    let was : WasRead c.args.bytes.now c.in_ok-header.header.geometry.fields c.in_ok-lines.lines.items = record {
-      geometry = c.in_ok-header.ensures.geometry;
-      valid = c.in_ok-header.header.geometry.valid;
-      header = c.in_ok-header.ensures.passed;
-      host = c.in_ok-check_header.ensures.passed;
-      rest = c.in_ok-lines.ensures.passed;
-      lines = c.in_ok-lines.ensures.lines;
-    } in
-    rw c.new.ensures (was_script c.args.bytes.now c.in_ok-header.header.geometry.fields c.in_ok-lines.lines.items (search rules) was).spelled
-
-pub returns-clause-complete : goal.returns-clause-complete
-returns-clause-complete c = λ s is e.
-    let was : WasRead c.args.bytes.now c.in_ok-header.header.geometry.fields c.in_ok-lines.lines.items = record {
-      geometry = c.in_ok-header.ensures.geometry;
-      valid = c.in_ok-header.header.geometry.valid;
-      header = c.in_ok-header.ensures.passed;
-      host = c.in_ok-check_header.ensures.passed;
-      rest = c.in_ok-lines.ensures.passed;
-      lines = c.in_ok-lines.ensures.lines;
-    } in
-    c.new.ensures ∙ was_whole c.args.bytes.now c.in_ok-header.header.geometry.fields c.in_ok-lines.lines.items s was is e
-
-pub returns-clause-passed : goal.returns-clause-passed
-returns-clause-passed c =
-    let was : WasRead c.args.bytes.now c.in_ok-header.header.geometry.fields c.in_ok-lines.lines.items = record {
-      geometry = c.in_ok-header.ensures.geometry;
-      valid = c.in_ok-header.header.geometry.valid;
-      header = c.in_ok-header.ensures.passed;
-      host = c.in_ok-check_header.ensures.passed;
-      rest = c.in_ok-lines.ensures.passed;
-      lines = c.in_ok-lines.ensures.lines;
-    } in
-    (was_script c.args.bytes.now c.in_ok-header.header.geometry.fields c.in_ok-lines.lines.items (search rules) was).passed
+pub returns : goal.returns
+returns c =
+    let bytes = c.args.bytes.now in
+    let header = c.in_ok-header.header.geometry in
+    let lines = c.in_ok-lines.lines.items in
+    let first = c.in_ok-header.ensures in
+    let rest = c.in_ok-lines.ensures in
+    let was : WasScript bytes (record { geometry = header.fields; lines = lines }) =
+    was_script bytes header.fields lines (search rules) first.geometry header.valid first.passed c.in_ok-check_header.ensures.passed rest.passed rest.lines in
+    record {
+      script = rw c.new.ensures was.script;
+      spelled = rw c.new.ensures was.spelled;
+      complete = λ s is e. c.new.ensures ∙ was_whole bytes header.fields lines s first.geometry rest.lines is e;
+      passed = was.passed;
+      broken = tt;
+    }

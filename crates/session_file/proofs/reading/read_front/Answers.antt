@@ -3,8 +3,8 @@ use Rattle.std.proofs.lemmas.Result.{err_from_is_err_and}
 use Rattle.zone_model.specs.Sessions.{spelling}
 use Rattle.session_file.specs.Places.{session_in, session_end}
 use Rattle.session_file.specs.FileRules.{front_rows}
-use Rattle.session_file.proofs.Fronts.{IsFront, begins_with, taken}
-use Rattle.session_file.proofs.Firsts.{WasRead, no_memory, front-header, front-records, read-session, read-end, read-passed, read-front}
+use Rattle.session_file.proofs.Fronts.{begins_with, taken}
+use Rattle.session_file.proofs.Firsts.{no_memory, front-header, front-records, WasRead, was_read}
 use Rattle.session_file.proofs.reading.read_front.Goals as goal
 
 pub returns-in_err-header-clause-complete : goal.returns-in_err-header-clause-complete
@@ -30,67 +30,29 @@ returns-in_err-acts-clause-broken c =
 
 pub new-requires : goal.new-requires
 new-requires c =
-    let was : WasRead c.args.bytes.now c.in_ok-header.header.geometry.fields c.in_ok-header.header.commands c.in_ok-acts.acts.acts c.in_ok-acts.end = record {
-      geometry = c.in_ok-header.ensures.geometry;
-      count = c.in_ok-header.ensures.commands;
-      all = c.in_ok-acts.ensures.acts;
-      last = c.in_ok-acts.ensures.end;
-      valid = c.in_ok-header.header.geometry.valid;
-      header = c.in_ok-header.ensures.passed;
-      records = c.in_ok-acts.ensures.passed;
-    } in
-    rw (read-session c.args.bytes.now c.in_ok-header.header.geometry.fields c.in_ok-header.header.commands c.in_ok-acts.acts.acts c.in_ok-acts.end was) (read-front c.args.bytes.now c.in_ok-header.header.geometry.fields c.in_ok-header.header.commands c.in_ok-acts.acts.acts c.in_ok-acts.end (search rules) was).session
+    let header = c.in_ok-header.header in
+    let acts = c.in_ok-acts.acts.acts in
+    let first = c.in_ok-header.ensures in
+    let rest = c.in_ok-acts.ensures in
+    let was : WasRead c.args.bytes.now (record { geometry = header.geometry.fields; acts = acts }) c.in_ok-acts.end =
+    was_read c.args.bytes.now header.geometry.fields header.commands acts c.in_ok-acts.end (search rules) first.geometry header.geometry.valid first.commands first.passed rest.acts rest.end rest.passed in
+    rw was.session was.front.session
 
-pub returns-clause-spelled : goal.returns-clause-spelled
-returns-clause-spelled c =
-    let was : WasRead c.args.bytes.now c.in_ok-header.header.geometry.fields c.in_ok-header.header.commands c.in_ok-acts.acts.acts c.in_ok-acts.end = record {
-      geometry = c.in_ok-header.ensures.geometry;
-      count = c.in_ok-header.ensures.commands;
-      all = c.in_ok-acts.ensures.acts;
-      last = c.in_ok-acts.ensures.end;
-      valid = c.in_ok-header.header.geometry.valid;
-      header = c.in_ok-header.ensures.passed;
-      records = c.in_ok-acts.ensures.passed;
-    } in
-    let front : IsFront c.args.bytes.now = read-front c.args.bytes.now c.in_ok-header.header.geometry.fields c.in_ok-header.header.commands c.in_ok-acts.acts.acts c.in_ok-acts.end (search rules) was in
-    rw (c.new.ensures, read-session c.args.bytes.now c.in_ok-header.header.geometry.fields c.in_ok-header.header.commands c.in_ok-acts.acts.acts c.in_ok-acts.end was, read-end c.args.bytes.now c.in_ok-header.header.geometry.fields c.in_ok-header.header.commands c.in_ok-acts.acts.acts c.in_ok-acts.end was) (taken (spelling (session_in c.args.bytes.now)) (session_end c.args.bytes.now) c.args.bytes.now front.within front.spelled)
-
-pub returns-clause-within : goal.returns-clause-within
-returns-clause-within c =
-    let was : WasRead c.args.bytes.now c.in_ok-header.header.geometry.fields c.in_ok-header.header.commands c.in_ok-acts.acts.acts c.in_ok-acts.end = record {
-      geometry = c.in_ok-header.ensures.geometry;
-      count = c.in_ok-header.ensures.commands;
-      all = c.in_ok-acts.ensures.acts;
-      last = c.in_ok-acts.ensures.end;
-      valid = c.in_ok-header.header.geometry.valid;
-      header = c.in_ok-header.ensures.passed;
-      records = c.in_ok-acts.ensures.passed;
-    } in
-    rw (read-end c.args.bytes.now c.in_ok-header.header.geometry.fields c.in_ok-header.header.commands c.in_ok-acts.acts.acts c.in_ok-acts.end was) (read-front c.args.bytes.now c.in_ok-header.header.geometry.fields c.in_ok-header.header.commands c.in_ok-acts.acts.acts c.in_ok-acts.end (search rules) was).within
-
-pub returns-clause-complete : goal.returns-clause-complete
-returns-clause-complete c = λ s after is e.
-    let was : WasRead c.args.bytes.now c.in_ok-header.header.geometry.fields c.in_ok-header.header.commands c.in_ok-acts.acts.acts c.in_ok-acts.end = record {
-      geometry = c.in_ok-header.ensures.geometry;
-      count = c.in_ok-header.ensures.commands;
-      all = c.in_ok-acts.ensures.acts;
-      last = c.in_ok-acts.ensures.end;
-      valid = c.in_ok-header.header.geometry.valid;
-      header = c.in_ok-header.ensures.passed;
-      records = c.in_ok-acts.ensures.passed;
-    } in
-    let whole = begins_with c.args.bytes.now s after is e in
-    (c.new.ensures ∙ read-session c.args.bytes.now c.in_ok-header.header.geometry.fields c.in_ok-header.header.commands c.in_ok-acts.acts.acts c.in_ok-acts.end was ∙ whole.session, read-end c.args.bytes.now c.in_ok-header.header.geometry.fields c.in_ok-header.header.commands c.in_ok-acts.acts.acts c.in_ok-acts.end was ∙ whole.end)
-
-pub returns-clause-passed : goal.returns-clause-passed
-returns-clause-passed c =
-    let was : WasRead c.args.bytes.now c.in_ok-header.header.geometry.fields c.in_ok-header.header.commands c.in_ok-acts.acts.acts c.in_ok-acts.end = record {
-      geometry = c.in_ok-header.ensures.geometry;
-      count = c.in_ok-header.ensures.commands;
-      all = c.in_ok-acts.ensures.acts;
-      last = c.in_ok-acts.ensures.end;
-      valid = c.in_ok-header.header.geometry.valid;
-      header = c.in_ok-header.ensures.passed;
-      records = c.in_ok-acts.ensures.passed;
-    } in
-    read-passed c.args.bytes.now c.in_ok-header.header.geometry.fields c.in_ok-header.header.commands c.in_ok-acts.acts.acts c.in_ok-acts.end was
+pub returns : goal.returns
+returns c =
+    let bytes = c.args.bytes.now in
+    let header = c.in_ok-header.header in
+    let acts = c.in_ok-acts.acts.acts in
+    let first = c.in_ok-header.ensures in
+    let rest = c.in_ok-acts.ensures in
+    let was : WasRead bytes (record { geometry = header.geometry.fields; acts = acts }) c.in_ok-acts.end =
+    was_read bytes header.geometry.fields header.commands acts c.in_ok-acts.end (search rules) first.geometry header.geometry.valid first.commands first.passed rest.acts rest.end rest.passed in
+    record {
+      session = rw (c.new.ensures, was.session) was.front.session;
+      spelled = rw (c.new.ensures, was.session, was.last) (taken (spelling (session_in bytes)) (session_end bytes) bytes was.front.within was.front.spelled);
+      within = rw was.last was.front.within;
+      end = was.last;
+      complete = λ s after is e. let whole = begins_with bytes s after is e in (c.new.ensures ∙ was.session ∙ whole.session, was.last ∙ whole.end);
+      passed = was.passed;
+      broken = tt;
+    }

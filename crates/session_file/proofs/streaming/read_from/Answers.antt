@@ -1,4 +1,4 @@
-use Rattle.std.proofs.Common.{◌≡◌, ◌++◌, length, ap, subst, ◌∙◌, arith}
+use Rattle.std.proofs.Common.{rules, ◌≡◌, ◌++◌, length, ap, subst, ◌∙◌, arith}
 use Rattle.std.proofs.lemmas.List.{length-drop}
 use Rattle.std.proofs.lemmas.Result.{err_from_is_err_and}
 use Rattle.std.specs.Io.KnownBytes.{Consumes}
@@ -26,27 +26,22 @@ returns-in_err-of-in-Err-clause-stops g c =
     let came = came_first left now c.new-feed.result c.fill_header.new.feed c.new-feed.ensures c.in_ok-fill_header.ensures.goes_on in
     rw p.1 (read_front left now c.fill_header.new.feed came (omega (arith, c.in_ok-fill_header.ensures.few)))
 
-pub returns-in-Ok-clause-gives : goal.returns-in-Ok-clause-gives
-returns-in-Ok-clause-gives g c =
+pub returns-in-Ok : goal.returns-in-Ok
+returns-in-Ok g c =
     let left = g.S.Source.left c.args.source.now in
     let mid = g.S.Source.left c.fill_header.new.source in
     let now = g.S.Source.left c.read_after.new.source in
-    let header = header_bytes c.in-Ok.header.geometry.fields c.in-Ok.header.commands in
+    let fields = c.in-Ok.header.geometry.fields in
+    let header = header_bytes fields c.in-Ok.header.commands in
     let split : c.fill_header.new.feed ≡ header ++ c.skip.new.self =
-    header_taken c.rest.result.now c.fill_header.new.feed c.skip.new.self c.in-Ok.header.geometry.fields c.in-Ok.header.commands c.rest.ensures.rest c.rest.ensures.bytes c.in-Ok.ensures.passed c.in-Ok.ensures.geometry c.in-Ok.ensures.commands c.skip.ensures in
+    header_taken c.rest.result.now c.fill_header.new.feed c.skip.new.self fields c.in-Ok.header.commands c.rest.ensures.rest c.rest.ensures.bytes c.in-Ok.ensures.passed c.in-Ok.ensures.geometry c.in-Ok.ensures.commands c.skip.ensures in
     let came : Consumes left mid (header ++ c.skip.new.self) = subst (Consumes left mid) split (came_first left mid c.new-feed.result c.fill_header.new.feed c.new-feed.ensures c.in_ok-fill_header.ensures.goes_on) in
-    gives_all left mid now header c.skip.new.self c.read_after.result came c.read_after.ensures.gives
-
-pub returns-in-Ok-clause-stops : goal.returns-in-Ok-clause-stops
-returns-in-Ok-clause-stops g c =
-    let left = g.S.Source.left c.args.source.now in
-    let mid = g.S.Source.left c.fill_header.new.source in
-    let now = g.S.Source.left c.read_after.new.source in
-    let header = header_bytes c.in-Ok.header.geometry.fields c.in-Ok.header.commands in
-    let split : c.fill_header.new.feed ≡ header ++ c.skip.new.self =
-    header_taken c.rest.result.now c.fill_header.new.feed c.skip.new.self c.in-Ok.header.geometry.fields c.in-Ok.header.commands c.rest.ensures.rest c.rest.ensures.bytes c.in-Ok.ensures.passed c.in-Ok.ensures.geometry c.in-Ok.ensures.commands c.skip.ensures in
-    let came : Consumes left mid (header ++ c.skip.new.self) = subst (Consumes left mid) split (came_first left mid c.new-feed.result c.fill_header.new.feed c.new-feed.ensures c.in_ok-fill_header.ensures.goes_on) in
-    stops_all left mid now header c.skip.new.self c.read_after.result came (header_size c.in-Ok.header.geometry.fields c.in-Ok.header.commands) c.read_after.ensures.stops
+    record {
+      gives = gives_all left mid now header c.skip.new.self c.read_after.result came c.read_after.ensures.gives;
+      stops = stops_all left mid now header c.skip.new.self c.read_after.result came (header_size fields c.in-Ok.header.commands) c.read_after.ensures.stops;
+      fault = search rules;
+      never_falls = search rules;
+    }
 
 pub returns-in_ok-of-in-Err-clause-gives : goal.returns-in_ok-of-in-Err-clause-gives
 returns-in_ok-of-in-Err-clause-gives g c =
