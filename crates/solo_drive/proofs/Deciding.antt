@@ -1,5 +1,5 @@
 -- What the driver's verdict on a deed to one of the lent cells makes of the parts of a drive.
-use Rattle.std.proofs.Common.{◌≡◌, ℕ, ◌+◌, ◌-◌, Bool, true, false, cond, List, ◌++◌, Option, Some, None, length, set, refl, sym, ap, ◌∙◌, arith, inl, inr}
+use Rattle.std.proofs.Common.{◌≡◌, ℕ, ◌+◌, Bool, true, false, cond, List, ◌++◌, Option, Some, None, length, set, refl, sym, ap, ◌∙◌, arith, inl, inr}
 use Rattle.std.specs.Prelude.{◌==◌, ◌&&◌, ◌⊎◌, not, is_some, unwrap_or}
 use Rattle.std.specs.List.{range_with_len}
 use Rattle.std.proofs.lemmas.Bool.{cases_Bool, and_parts, and_from, not-true, eqb-true, eq-eqb}
@@ -26,7 +26,7 @@ use Rattle.zone_room.specs.Rooms.{cell_in, cell_use, with_closed, counts_after_c
 use Rattle.zone_room.specs.Verdicts.{rows_at, need_at, victim_at, refused_or_done, verdict_on, verdict, with_deed, counts_with_deed, new_if_done, cells_after, counts_after}
 use Rattle.zone_model.specs.declared.act.Act.{Act}
 use Rattle.zone_model.specs.Places.{command_of}
-use Rattle.zone_model.specs.Zones.{zone, zones, counts}
+use Rattle.zone_model.specs.Zones.{zone, counts}
 use Rattle.zone_model.specs.Answers.{status, evicted, and_then}
 use Rattle.zone_model.proofs.Passing.{refuses, success-none, rows_for-refuse}
 use Rattle.drive_book.specs.declared.book.Book.{Book}

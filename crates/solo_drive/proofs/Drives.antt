@@ -76,7 +76,6 @@ all-lent g a cells book s =
       book_stands = s.book_stands;
       cells_stand = s.all_stand ∙ ap (cells_at g (answered g book.journal.acts)) (sym of_zones);
       lent = inr of_zones;
-      small = omega (arith, s.small);
     }
 
 pub applied-stands : (g : GeometryFields) (a : Act) (p : Posted) (cells cells' : List Cell) (book book' : Book) (out out' : List ℕ) → DriveStands g cells book → 0 < book.journal.spare → IsApplied g a p cells cells' book book' out out' → DriveStands g cells' book'

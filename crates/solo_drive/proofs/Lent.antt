@@ -16,7 +16,6 @@ use Rattle.drive_rules.specs.Tables.{front_rows, last_zone}
 use Rattle.zone_cell.specs.Cells.{Cell}
 use Rattle.zone_model.specs.declared.act.Act.{Act}
 use Rattle.zone_model.specs.Places.{Place, command_of}
-use Rattle.zone_model.specs.Zones.{zones}
 use Rattle.zone_model.specs.Reach.{zone_with, zones_with, reach_of}
 use Rattle.zone_model.proofs.Fronts.{write_front-within, append_front-within, excursion_front-within, send_front-passes}
 use Rattle.zone_model.proofs.Sends.{HasBlocks, some_blocks, aimed-deed}

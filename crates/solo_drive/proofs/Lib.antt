@@ -19,3 +19,9 @@ pub mod PlainPages
 pub mod Drives
 pub mod AllZones
 pub mod Sweeps
+pub mod Going
+pub mod OpenedCells
+pub mod Moved
+pub mod ReadyCases
+pub mod Settled
+pub mod Both

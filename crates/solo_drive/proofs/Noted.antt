@@ -87,7 +87,7 @@ log-zones g a cells book p = subst (All (λ z. z < g.zones)) (sym (book-log g a 
 
 -- its bytes are no more than one command may move
 log-fits : (g : GeometryFields) (a : Act) (nsid page bytes offset : ℕ) (retain : Bool) → command_of a ≡ cmd.GetLog nsid page bytes offset retain → first_holding (front_rows g (command_of a)) ≡ None → is_too_long g bytes ≡ false
-log-fits g a nsid page bytes offset retain e none = (none_holds (log_rows g nsid page bytes offset) (rw e at none)).1.1.0
+log-fits g a nsid page bytes offset retain e none = let (_, (_, (too_long, _))) = none_holds (log_rows g nsid page bytes offset) (rw e at none) in too_long
 
 -- there is room for them
 pub log-room : (g : GeometryFields) (a : Act) (nsid page bytes offset room : ℕ) (retain : Bool) → command_of a ≡ cmd.GetLog nsid page bytes offset retain → first_holding (front_rows g (command_of a)) ≡ None → reply_len g (command_of a) ≤ room → bytes ≤ room

@@ -1,5 +1,5 @@
 -- Acts that go to no one zone: refused at the front, a Flush, and a Read.
-use Rattle.std.proofs.Common.{◌≡◌, ℕ, ◌+◌, ◌-◌, Bool, true, false, cond, List, [], ◌∷◌, ◌++◌, Option, Some, None, drop, refl, sym, ap, ◌∙◌, subst, inl, inr}
+use Rattle.std.proofs.Common.{◌≡◌, ℕ, Bool, true, false, cond, List, [], ◌∷◌, ◌++◌, Option, Some, None, drop, refl, sym, ap, ◌∙◌, subst, inl, inr}
 use Rattle.std.specs.Prelude.{◌==◌, is_none, unwrap_or}
 use Rattle.std.proofs.Math.Bool.{and-false}
 use Rattle.std.proofs.lemmas.Bool.{cases_Bool, eqb-true}
@@ -21,7 +21,7 @@ use Rattle.zone_model.specs.declared.act.Act.{Act}
 use Rattle.zone_model.specs.Places.{Place, command_of}
 use Rattle.zone_model.specs.Zones.{counts}
 use Rattle.zone_model.specs.Notices.{changed}
-use Rattle.zone_model.specs.Answers.{status, zone_deed, evicted, own_rows, table_of}
+use Rattle.zone_model.specs.Answers.{status, zone_deed, own_rows, table_of}
 use Rattle.zone_model.specs.Local.{act_wants_room}
 use Rattle.zone_model.specs.Replies.{read_by, reply_bytes}
 use Rattle.zone_model.proofs.Passing.{success-front, table_by-front}

@@ -17,7 +17,7 @@ use Rattle.drive_rules.specs.Aims.{aim_of}
 use Rattle.drive_rules.specs.Tables.{is_too_long, front_rows, read_front, read_rows, zones_between, last_zone}
 use Rattle.zone_model.specs.declared.act.Act.{Act}
 use Rattle.zone_model.specs.Places.{Place, command_of}
-use Rattle.zone_model.specs.Zones.{state, zones}
+use Rattle.zone_model.specs.Zones.{state}
 use Rattle.zone_model.specs.Answers.{status, own_rows}
 use Rattle.zone_model.specs.Reach.{reach_of}
 use Rattle.zone_model.specs.Replies.{reply_bytes, blocks_read}

@@ -59,9 +59,9 @@ pub can-report : (g : GeometryFields) (a : Act) (cells : List Cell) (book : Book
     → first_holding (front_rows g (command_of a)) ≡ None → reply_len g (command_of a) ≤ size → CanReport g cells slba bytes size
 can-report g a cells book nsid slba bytes act filter partial size valid p e passes le =
     let h = history_of g book in
-    let fails = none_holds (receive_rows g nsid slba bytes act filter) (rw e at passes) in
-    let within : slba < all_blocks g = leb-false (all_blocks g) slba fails.1.1.1.1.0 in
-    let short : is_too_long g bytes ≡ false = fails.1.0 in
+    let (_, (too_long, (_, (_, (no_block, _))))) = none_holds (receive_rows g nsid slba bytes act filter) (rw e at passes) in
+    let within : slba < all_blocks g = leb-false (all_blocks g) slba no_block in
+    let short : is_too_long g bytes ≡ false = too_long in
     let asks : reply_len g (command_of a) ≡ bytes = rw (e, short) refl in
     let all = lent-zones g a (zones_in cells) nsid slba bytes act filter partial e p.lent in
     let below : zone_of g slba < g.zones = div_below slba g.zone_size g.zones valid.zones.zone_size within in

@@ -6,3 +6,5 @@ pub mod Applying
 pub mod Telling
 pub mod Sweeping
 pub mod Noticing
+pub mod Ahead
+pub mod Written

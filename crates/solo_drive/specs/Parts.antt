@@ -34,7 +34,6 @@ pub record PartsStand (g : GeometryFields) (a : Act) (cells : List Cell) (book :
   pub book_stands : BookStands g book
   pub cells_stand : CellsStand g (answered g book.journal.acts) cells
   pub lent : AreLent g a (zones_in cells)
-  pub small : length book.journal.acts < 2 ^ 32
 
 -- the parts are those of a drive after these acts: the cells of all zones, rising, and the book
 pub record DriveStands (g : GeometryFields) (cells : List Cell) (book : Book) : Type 0 where

@@ -11,6 +11,7 @@ ghost use Rattle.solo_drive.specs.Telling.{Tells};
 
 use crate::notices::{ask, get_feature, read_log, set_feature};
 use crate::pages::serve_identify;
+use crate::placing::placed;
 use crate::reads::read_blocks;
 use crate::reports::serve_receive;
 use crate::sweeping::serve_sweep;
@@ -22,9 +23,6 @@ use zone_cell::ZoneCell;
 use zone_model::Act;
 use zone_room::{Served, serve_deed};
 
-// A block's number is told in two halves, the low one first.
-const HALF: u64 = 1 << 32;
-
 // What a deed that was done to a zone gives beside its status. An Append tells the first of its
 // blocks, which stand from the pointer before it on; an excursion may answer an event request.
 fn outcome_of(book: &mut Book, g: &Geometry, aim: Aim, pointer: u64) -> Outcome
@@ -33,14 +31,7 @@ fn outcome_of(book: &mut Book, g: &Geometry, aim: Aim, pointer: u64) -> Outcome
     ensures { Tells g.now.fields aim.zone pointer book.old book.new result aim.deed }
 {
     match aim.deed {
-        Deed::Append { .. } => {
-            let lba = g.first(aim.zone) + pointer;
-            Outcome {
-                dw0: (lba % HALF) as u32,
-                dw1: (lba / HALF) as u32,
-                ..Outcome::done()
-            }
-        }
+        Deed::Append { .. } => placed(g.first(aim.zone) + pointer),
         Deed::Excursion { .. } => Outcome {
             event: book.note_excursion(aim.zone),
             ..Outcome::done()

@@ -1,13 +1,18 @@
+ghost use Rattle.std.specs.Prelude.{◌<◌, IfSome, IfOk, length};
 ghost use Rattle.sqe_codec.specs.Ranges.{IsWritable};
+ghost use Rattle.solo_drive.specs.Drives.{HasLengths, act_of};
+ghost use Rattle.solo_drive.specs.Parts.{PartsStand};
+ghost use Rattle.solo_drive.specs.Applying.{IsApplied};
 
 use super::*;
 use byteorder::{ByteOrder, LittleEndian};
 use cqe_codec::Cqe;
-use sqe_codec::{Cmd, reply_len, transfer_len, write};
+use sqe_codec::{Cmd, Sqe, reply_len, transfer_len, write};
 use std::alloc::Global;
 use std::test::Fail;
 use zns_io::Bytes;
 use zns_types::{Code, Geometry, GeometryFields};
+use zone_cell::ZoneCell;
 
 // Zones of 48 blocks of 512 bytes. Three may be active and two opened, and one may have a random
 // write area of 8 blocks.
@@ -28,66 +33,110 @@ const FIELDS: GeometryFields = GeometryFields {
     depth: 64,
 };
 
-const WRITE: Cmd = Cmd::Write {
-    nsid: 1,
-    slba: 64,
-    blocks: 1,
-};
+// What is tried in zone 1.
+#[derive(Clone, Copy)]
+enum Tried {
+    // Writes its first block.
+    Write,
 
-const READ: Cmd = Cmd::Read {
-    nsid: 1,
-    slba: 64,
-    blocks: 1,
-};
+    // Reads its first block.
+    Read,
 
-const FINISH: Cmd = Cmd::Excursion {
-    nsid: 1,
-    slba: 64,
-    kind: 1,
-};
+    // Appends all blocks but the first and the last.
+    Append,
 
-// Serves a command whose host data are of one byte: what it posts, and the room for what it reads,
-// which held EEh.
-fn serve(
-    alloc: Global,
-    drive: &mut Solo,
-    queue: u16,
-    cmd: &Cmd,
-    byte: u8,
-) -> Result<Option<(Posted, Vec<u8>)>, Fail>
-    requires { IsWritable cmd.now }
+    // Writes its last block.
+    Fill,
+
+    // The controller finishes it.
+    Finish,
+}
+
+fn command_of(tried: Tried) -> Cmd
+    ensures { IsWritable result }
 {
-    let g = drive.geometry();
-    if queue >= g.fields().queues || drive.spare() == 0 {
+    let (nsid, kind, blocks) = (1, 1, 1);
+    let slba = 64;
+    match tried {
+        Tried::Write => Cmd::Write { nsid, slba, blocks },
+        Tried::Read => Cmd::Read { nsid, slba, blocks },
+        Tried::Append => Cmd::Append {
+            nsid,
+            zslba: slba,
+            blocks: 46,
+        },
+        Tried::Fill => Cmd::Write {
+            nsid,
+            slba: slba + 47,
+            blocks,
+        },
+        Tried::Finish => Cmd::Excursion { nsid, slba, kind },
+    }
+}
+
+// What a drive is given.
+#[derive(Drop)]
+struct Request {
+    queue: u16,
+    sqe: Sqe,
+    payload: Bytes,
+    out: Vec<u8>,
+}
+
+// Each byte of the host data is 11h. The room for what is read holds EEh.
+fn request_for(alloc: Global, g: &Geometry, tried: Tried) -> Result<Request, Fail>
+    ensures { IfOk result (λ r. HasLengths g.now.fields (act_of r.queue r.sqe r.payload)
+        (length r.out.items)) }
+{
+    let queue = match tried {
+        Tried::Finish => 0,
+        _ => 1,
+    };
+    let sqe = write(&command_of(tried), 7);
+    let payload = Bytes::filled(alloc, transfer_len(g, queue == 0, &sqe), 0x11)?;
+    let out = vec![in alloc; 0xee; reply_len(g, queue == 0, &sqe) as usize]?;
+    Ok(Request {
+        queue,
+        sqe,
+        payload,
+        out,
+    })
+}
+
+// Serves what is tried: what it posts, and the room for what it reads.
+fn serve(alloc: Global, drive: &mut Solo, tried: Tried) -> Result<Option<(Posted, Vec<u8>)>, Fail> {
+    let Request {
+        queue,
+        sqe,
+        payload,
+        mut out,
+    } = request_for(alloc, drive.geometry(), tried)?;
+    if queue >= drive.geometry().fields().queues || drive.spare() == 0 {
         return Ok(None);
     }
-    let sqe = write(cmd, 7);
-    let payload = Bytes::filled(alloc, transfer_len(g, queue == 0, &sqe), byte)?;
-    let mut out = vec![in alloc; 0xee; reply_len(g, queue == 0, &sqe) as usize]?;
     let posted = drive.submit(queue, sqe, payload, &mut out);
     Ok(Some((posted, out)))
 }
 
-// The queue, the status, the head and the phase of the one entry, and the bytes that were read.
-fn told(answer: &Option<(Posted, Vec<u8>)>) -> Option<(u16, Code, u16, bool, &[u8])> {
+// The one entry, and the bytes that were read.
+fn told(answer: &Option<(Posted, Vec<u8>)>) -> Option<(Cqe, &[u8])> {
     let (posted, out) = answer.as_ref()?;
     match posted.entries.as_slice() {
-        [
-            Cqe {
-                sqid,
-                code,
-                head,
-                phase,
-                ..
-            },
-        ] if posted.len as usize <= out.len() => Some((
-            *sqid,
-            *code,
-            *head,
-            *phase,
-            &out[..posted.len as usize],
-        )),
+        [entry] if posted.len as usize <= out.len() => {
+            Some((*entry, &out[..posted.len as usize]))
+        }
         _ => None,
+    }
+}
+
+// Success on a queue, which took this many commands.
+fn success(sqid: u16, head: u16) -> Cqe {
+    Cqe {
+        head,
+        sqid,
+        cid: 7,
+        phase: true,
+        ..Cqe::default()
     }
 }
 
@@ -109,31 +158,36 @@ fn descriptors_of(alloc: Global, drive: &Solo) -> Result<Vec<u8>, Fail> {
     Ok(out)
 }
 
+// A drive to which nothing was done.
+fn fresh(alloc: Global) -> Result<Solo, Fail> {
+    Ok(Solo::new(alloc, Geometry::new(FIELDS)?, 32)?)
+}
+
 // A drive serves, is taken apart and put together, and serves on.
 #[test]
 fn a_drive_of_parts_serves_on(rt: HostRuntime) -> Result<(), Fail> {
     let alloc = rt.alloc();
-    let mut drive = Solo::new(alloc, Geometry::new(FIELDS)?, 32)?;
-    let written = serve(alloc, &mut drive, 1, &WRITE, 0x11)?;
-    assert_eq!(rt;
-        told(&written),
-        Some((1, Code::SUCCESS, 1, true, [].as_slice()))
-    );
+    let mut drive = fresh(alloc)?;
+    let written = serve(alloc, &mut drive, Tried::Write)?;
+    assert_eq!(rt; told(&written), Some((success(1, 1), [].as_slice())));
     assert_eq!(rt; counted(&drive, 1), (1, Some(1)));
-    let finished = serve(alloc, &mut drive, 0, &FINISH, 0)?;
-    assert_eq!(rt;
-        told(&finished),
-        Some((0, Code::SUCCESS, 1, true, [].as_slice()))
-    );
+    let finished = serve(alloc, &mut drive, Tried::Finish)?;
+    assert_eq!(rt; told(&finished), Some((success(0, 1), [].as_slice())));
     let mut drive = Solo::of_parts(drive.into_parts());
-    let read = serve(alloc, &mut drive, 1, &READ, 0)?;
-    assert_eq!(rt;
-        told(&read),
-        Some((1, Code::SUCCESS, 2, true, [0x11; 512].as_slice()))
-    );
+    let read = serve(alloc, &mut drive, Tried::Read)?;
+    assert_eq!(rt; told(&read), Some((success(1, 2), [0x11; 512].as_slice())));
     assert_eq!(rt; (drive.spare(), drive.journal().len()), (29, 3));
     assert_eq!(rt; counted(&drive, 1), (0, Some(48)));
-    // zone 1 was finished by the controller, and has changed
+    Ok(())
+}
+
+// A zone that the controller finished is told of and is listed as changed.
+#[test]
+fn a_finished_zone_is_shown(rt: HostRuntime) -> Result<(), Fail> {
+    let alloc = rt.alloc();
+    let mut drive = fresh(alloc)?;
+    let _written = serve(alloc, &mut drive, Tried::Write)?;
+    let _finished = serve(alloc, &mut drive, Tried::Finish)?;
     let shown = descriptors_of(alloc, &drive)?;
     assert!(rt; shown.len() == 256);
     assert_eq!(rt; (shown[65], shown[66], shown[129]), (0xe0, 1, 0x10));
@@ -141,5 +195,121 @@ fn a_drive_of_parts_serves_on(rt: HostRuntime) -> Result<(), Fail> {
     drive.page(&mut page);
     assert_eq!(rt; LittleEndian::read_u64(&page), 1);
     assert_eq!(rt; LittleEndian::read_u64(&page[8..]), 64);
+    Ok(())
+}
+
+// Serves a command by both calls, where it goes ahead: what they make of cells, book and room is
+// what `apply` makes of them.
+fn apply_ahead(
+    cells: &mut [ZoneCell],
+    book: &mut Book,
+    g: &Geometry,
+    queue: u16,
+    sqe: Sqe,
+    payload: Bytes,
+    out: &mut [u8],
+) -> Option<Posted>
+    requires spare { 0 < book.old.journal.spare }
+    requires queue { queue < g.now.fields.queues }
+    requires lengths { HasLengths g.now.fields (act_of queue sqe payload) (length out.old) }
+    requires parts { PartsStand g.now.fields (act_of queue sqe payload) cells.old book.old }
+    ensures { IfSome result (λ posted. IsApplied g.now.fields (act_of queue sqe payload) posted
+        cells.old cells.new book.old book.new out.old out.new) }
+{
+    match ready(cells, g, queue, &sqe, &payload, out) {
+        Some(ready) => Some(settle(book, g, queue, sqe, payload, ready)),
+        None => None,
+    }
+}
+
+// As `serve`, by both calls: the drive afterwards and the answer, where the command goes ahead.
+fn serve_ahead(
+    alloc: Global,
+    drive: Solo,
+    tried: Tried,
+) -> Result<Option<(Solo, (Posted, Vec<u8>))>, Fail> {
+    let Parts {
+        mut cells,
+        mut book,
+        geometry,
+    } = drive.into_parts();
+    let Request {
+        queue,
+        sqe,
+        payload,
+        mut out,
+    } = request_for(alloc, &geometry, tried)?;
+    if queue >= geometry.fields().queues || book.journal.spare() == 0 {
+        return Ok(None);
+    }
+    match apply_ahead(
+        &mut cells, &mut book, &geometry, queue, sqe, payload, &mut out,
+    ) {
+        Some(posted) => {
+            let drive = Solo::of_parts(Parts {
+                cells,
+                book,
+                geometry,
+            });
+            Ok(Some((drive, (posted, out))))
+        }
+        None => Ok(None),
+    }
+}
+
+// Whether two drives show the same.
+fn are_alike(alloc: Global, one: &Solo, other: &Solo) -> Result<bool, Fail> {
+    let same = descriptors_of(alloc, one)? == descriptors_of(alloc, other)?;
+    Ok(same && counted(one, 1) == counted(other, 1))
+}
+
+// Serves what is tried on one drive by `submit`, and on another by both calls. The other drive
+// comes back where it went ahead and all that is told and shown is the same.
+fn same(alloc: Global, one: &mut Solo, other: Solo, tried: Tried) -> Result<Option<Solo>, Fail> {
+    let plain = serve(alloc, one, tried)?;
+    let (other, answer) = match serve_ahead(alloc, other, tried)? {
+        Some(served) => served,
+        None => return Ok(None),
+    };
+    let alike = are_alike(alloc, one, &other)?;
+    let answer = Some(answer);
+    if alike && told(&plain).is_some() && told(&plain) == told(&answer) {
+        Ok(Some(other))
+    } else {
+        Ok(None)
+    }
+}
+
+// Nothing goes ahead to a zone that is not opened.
+#[test]
+fn a_closed_zone_waits(rt: HostRuntime) -> Result<(), Fail> {
+    let alloc = rt.alloc();
+    for tried in [Tried::Write, Tried::Append, Tried::Finish] {
+        let waits = serve_ahead(alloc, fresh(alloc)?, tried)?.is_none();
+        assert!(rt; waits);
+    }
+    Ok(())
+}
+
+// What goes ahead is answered as what doesn't: an Append to an opened zone, a Write behind the
+// pointer, which is refused, the Write that fills the zone, and a Read. Then the zone is Full.
+#[test]
+fn both_calls_are_one(rt: HostRuntime) -> Result<(), Fail> {
+    let alloc = rt.alloc();
+    let mut one = fresh(alloc)?;
+    let mut other = fresh(alloc)?;
+    let _first = serve(alloc, &mut one, Tried::Write)?;
+    let _second = serve(alloc, &mut other, Tried::Write)?;
+    for (tried, after) in [
+        (Tried::Append, (1, Some(47))),
+        (Tried::Write, (1, Some(47))),
+        (Tried::Fill, (0, Some(48))),
+        (Tried::Read, (0, Some(48))),
+    ] {
+        other = same(alloc, &mut one, other, tried)?.expect(&rt, "both are the same");
+        assert_eq!(rt; counted(&other, 1), after);
+    }
+    assert_eq!(rt; (other.spare(), other.journal().len()), (27, 5));
+    assert!(rt; same(alloc, &mut one, other, Tried::Write)?.is_none());
     Ok(())
 }

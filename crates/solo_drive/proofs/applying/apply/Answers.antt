@@ -1,4 +1,4 @@
-use Rattle.std.proofs.Common.{rules, ◌-◌, subst}
+use Rattle.std.proofs.Common.{subst}
 use Rattle.solo_drive.specs.Drives.{act_of}
 use Rattle.solo_drive.specs.Applying.{Serves}
 use Rattle.solo_drive.proofs.Entered.{posted-applies}

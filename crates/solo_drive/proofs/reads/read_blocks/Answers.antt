@@ -1,5 +1,5 @@
-use Rattle.std.proofs.Common.{◌≡◌, ◌+◌, ◌-◌, ◌*◌, ◌++◌, ℕ, List, true, false, drop, refl, sym, ap, ◌∙◌}
-use Rattle.zns_types.specs.Geometry.{block_len, zone_of}
+use Rattle.std.proofs.Common.{◌≡◌, ◌+◌, ◌-◌, ◌*◌, ◌++◌, ℕ, List, drop, refl, sym, ap, ◌∙◌}
+use Rattle.zns_types.specs.Geometry.{zone_of}
 use Rattle.drive_rules.specs.Tables.{last_zone}
 use Rattle.drive_book.specs.declared.outcome.Outcome.{Outcome}
 use Rattle.drive_book.specs.Outcomes.{plain_success}

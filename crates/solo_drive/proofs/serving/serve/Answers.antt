@@ -1,4 +1,4 @@
-use Rattle.std.proofs.Common.{rules, ◌-◌, sym, ap, ◌∙◌}
+use Rattle.std.proofs.Common.{sym, ap, ◌∙◌}
 use Rattle.zns_types.specs.Rows.{first_holding}
 use Rattle.sqe_codec.specs.declared.cmd.Cmd.{Cmd}
 use Rattle.drive_rules.specs.Aims.{sweep_of}

@@ -1,0 +1,18 @@
+ghost use Rattle.std.specs.Prelude.{◌≡◌, ◌^◌, ◌<◌};
+ghost use Rattle.solo_drive.specs.Telling.{placed_outcome};
+
+use drive_book::Outcome;
+
+// A block's number is told in two halves, the low one first.
+const HALF: u64 = 1 << 32;
+
+/// Success of an Append, which tells the first of its blocks.
+pub fn placed(lba: u64) -> Outcome
+    ensures { result ≡ placed_outcome lba }
+{
+    Outcome {
+        dw0: (lba % HALF) as u32,
+        dw1: (lba / HALF) as u32,
+        ..Outcome::done()
+    }
+}
