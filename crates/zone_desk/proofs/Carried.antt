@@ -14,6 +14,7 @@ use Rattle.zone_model.specs.Answers.{answered}
 use Rattle.zone_desk.specs.Parts.{zone_at, zones_at, AreAt, HasZone, Covers, ledger_at, with_act}
 use Rattle.zone_desk.specs.Sights.{in_order, zones_held, acts_out, log_of, journal_after, committed}
 use Rattle.zone_desk.specs.Plays.{Mine}
+use Rattle.zone_desk.specs.Ahead.{Open, open_act, HasMoved, Bears}
 use Rattle.zone_desk.specs.Passes.{IsAbove, away, emptied, IsCarried, AreRising, AreWithin, Carries}
 use Rattle.zone_desk.specs.declared.slot.Slot.{Slot}
 use Rattle.zone_desk.specs.declared.slot.Slot.TheVariants.{Away}
@@ -56,7 +57,7 @@ in_order-map f [] = refl
 in_order-map f (c ∷ cs) = map-append f (in_order cs) (c ∷ []) ∙ ap (λ z. z ++ f c ∷ []) (in_order-map f cs)
 
 -- the cells of zones
-zones-in_order : (g : GeometryFields) (log : List Act) (cs : List Cell) → zones_at g log (zones_in (in_order cs)) ≡ in_order (zones_at g log (zones_in cs))
+pub zones-in_order : (g : GeometryFields) (log : List Act) (cs : List Cell) → zones_at g log (zones_in (in_order cs)) ≡ in_order (zones_at g log (zones_in cs))
 zones-in_order g log [] = refl
 zones-in_order g log (c ∷ cs) =
     ap (zones_at g log) (map-append (λ (x : Cell). x.zone) (in_order cs) (c ∷ []))
@@ -124,10 +125,19 @@ in_hand v book b (Some j) is h =
     let same : b ≡ ledger_at v.geometry j = cc (is, h.0) in
     in_hand_of v b j (sym (ap (λ (x : Book). x.journal) same ∙ ledger-journal v.geometry j)) (ledger-own v.geometry b j same) h.1 h.2 h.3
 
+-- a pass that has no open command has the cells of its view
+pub plain_cells : (g : GeometryFields) (queue : ℕ) (o : Option Open) (view cells : List Cell) → o ≡ None → Bears g queue o view cells → cells ≡ in_order view
+plain_cells g queue None view cells e h = h
+plain_cells g queue (Some o) view cells e h = absurd (cc e)
+
+-- what an open command made of its cells
+pub moved_cells : (g : GeometryFields) (queue : ℕ) (o : Open) (opened : Option Open) (view cells : List Cell) → opened ≡ Some o → Bears g queue opened view cells → HasMoved g (open_act queue o) (in_order view) cells o.ready
+moved_cells g queue o opened view cells e h = subst (λ (x : Option Open). Bears g queue x view cells) e h
+
 -- what a pass has after a commit
-pub carried_after : (words : ℕ) (book : Option Book) (cells : List Cell) (me : Mine) (b b' : Book) (cells' : List Cell) (a : Act) → Carries words book cells me → IsInHand me.0 b me.0.journal → 0 < me.0.spare
-    → b' ≡ ledger_at me.0.geometry (with_act b.journal a) → cells' ≡ zones_at me.0.geometry (b.journal.acts ++ a ∷ []) (zones_in cells) → Carries words (Some b') cells' (committed me.0 a, me.1)
-carried_after words book cells me b b' cells' a c h spare book_is cells_are =
+pub carried_after : (words : ℕ) (opened : Option Open) (book : Option Book) (cells : List Cell) (me : Mine) (b b' : Book) (cells' : List Cell) (a : Act) → Carries words opened book cells me → IsInHand me.0 b me.0.journal → 0 < me.0.spare
+    → b' ≡ ledger_at me.0.geometry (with_act b.journal a) → cells' ≡ zones_at me.0.geometry (b.journal.acts ++ a ∷ []) (zones_in (in_order me.0.cells)) → Carries words None (Some b') cells' (committed me.0 a, me.1)
+carried_after words opened book cells me b b' cells' a c h spare book_is cells_are =
     let v : Sight = me.0 in
     let g : GeometryFields = v.geometry in
     let w : Sight = committed v a in
@@ -140,7 +150,8 @@ carried_after words book cells me b b' cells' a c h spare book_is cells_are =
     let carried : IsCarried w (Some b') (Some (with_act j a)) = (ap (λ (x : Book). Some x) book_is, omega (arith, h.room, spare), omega (arith, h.small, h.room, spare, length-append j.acts (a ∷ [])), stand) in
     record {
       book_is = subst (IsCarried w (Some b')) (sym after) carried;
-      cells_are = cells_are ∙ (ap (λ (l : List Cell). zones_at g log (zones_in l)) c.cells_are ∙ (zones-in_order g log v.cells ∙ ap in_order now));
+      cells_are = cells_are ∙ (zones-in_order g log v.cells ∙ ap in_order now);
+      been = record { acts = log; stand = stand };
       empty = c.empty ∙ (ap (λ (o : Option KeptActs). emptied o v.cells) h.out ∙ (ap (λ (l : List (ℕ × Slot)). (0, Away) ∷ l) (sym (away_again g log v.cells) ∙ ap (map away) now) ∙ ap (λ (o : Option KeptActs). emptied o w.cells) (sym after)));
       rising = subst AreRising now (rising_again g log v.cells c.rising);
       within = subst (AreWithin words) now (within_again words g log v.cells c.within);

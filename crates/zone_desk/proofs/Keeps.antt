@@ -118,9 +118,9 @@ more_apart c cells old apart (suc i) zero a b ea eb same = absurd (apart i a ea 
 more_apart c cells old apart (suc i) (suc j) a b ea eb same = ap suc (old i j a b ea eb same)
 
 -- the zone's word was free
-zone_free : (plan : Plan) (s : St) (r : Rule plan s) (id z : ℕ) (me : Mine) → get_elem? r.holders z ≡ some None → me.0.kind ≡ Queue → get_elem? s.views id ≡ some me.0
+zone_free : (plan : Plan) (s : St) (r : Rule plan s) (id z : ℕ) (me : Mine) → me.0.geometry ≡ plan.fields → get_elem? r.holders z ≡ some None → me.0.kind ≡ Queue → get_elem? s.views id ≡ some me.0
     → Goes plan s (suc (suc z)) id me (λ m'. TookZone (z + 2) me m') 1
-zone_free plan s r id z me free is at =
+zone_free plan s r id z me same free is at =
     let v : Sight = me.0 in
     let c : Cell = zone_at plan.fields r.log z in
     let zone : c.zone ≡ z = at-zone plan.fields r.log z in
@@ -188,7 +188,17 @@ zone_free plan s r id z me free is at =
         stands = r.stands;
         beyond = r.beyond;
       },
-      (c, refl, ap (λ (k : ℕ). (suc k, Zone c) ∷ me.1) (sym zone), ap (λ (k : ℕ). k + 2) zone),
+      (
+        c,
+        refl,
+        ap (λ (k : ℕ). (suc k, Zone c) ∷ me.1) (sym zone),
+        ap (λ (k : ℕ). k + 2) zone,
+        record {
+          acts = r.log;
+          stand = subst (λ (g : GeometryFields). AreAt g r.log (c ∷ v.cells)) (sym same)
+              (all-at plan.fields r.log (c ∷ v.cells) (λ i d e. (more_cells plan.fields id r.holders r.log z v.cells free f.cells mine i d e).1));
+        },
+      ),
     )
 
 zone_none : (plan : Plan) (s : St) (r : Rule plan s) (z : ℕ) (h : Option ℕ) → get_elem? r.holders z ≡ some h → get_or s.words (suc (suc z)) 0 ≡ 0 → get_elem? r.holders z ≡ some None
@@ -197,28 +207,28 @@ zone_none plan s r z (Some j) e found =
     let n : 1 ≡ 0 = sym (map_at word_of r.holders z (Some j) e) ∙ (sym (ap (λ (ws : List ℕ). get_or ws (suc (suc z)) 0) r.words) ∙ found) in absurd (suc-ne-zero 0 n)
 
 -- the zone's word becomes 1 where it was free, and else the view becomes w
-zone_taken : (plan : Plan) (slots id z : ℕ) (me : Mine) (w : Sight) (then : ℕ → Mine → Type 0) → me.0.kind ≡ Queue → z + 1 < slots
+zone_taken : (plan : Plan) (slots id z : ℕ) (me : Mine) → me.0.geometry ≡ plan.fields → (w : Sight) (then : ℕ → Mine → Type 0) → me.0.kind ≡ Queue → z + 1 < slots
     → ((x : ℕ) (m' : Mine) → x ≡ 0 → TookZone (z + 2) me m' → then x m') → ((x : ℕ) → x ≢ 0 → then x (w, me.1))
     → ((log : List Act) (standings : List Standing) (holder : Option ℕ) (holders : Holders) → Fits plan log standings holder holders id me.0 → Fits plan log standings holder holders id w) → w.spare ≡ me.0.spare → Same me.0 w → (HasBook me.0 → HasBook w) → ((z : ℕ) → HasCell z me.0 → HasCell z w)
     → Allows (Rule plan) slots id me (suc (suc z)) (λ n. either (eqb n 0) 1 n) then
-zone_taken plan slots id z me w then is near hit miss fits spare same book cells s r wide at small =
+zone_taken plan slots id z me fields w then is near hit miss fits spare same book cells s r wide at small =
     let x : ℕ = get_or s.words (suc (suc z)) 0 in
     let long = r.wide in
     let count = word_count plan s r in
     let there = at_some r.holders z (omega arith) in
     exchanged x 0 1 (Goes plan s (suc (suc z)) id me (then x))
     (λ (zero_found : x ≡ 0).
-    let t = zone_free plan s r id z me (zone_none plan s r z there.0 there.1 zero_found) is at in
+    let t = zone_free plan s r id z me fields (zone_none plan s r z there.0 there.1 zero_found) is at in
     (t.0, t.1, t.2, t.3, hit x (t.0, carried_after me.1 t.1) zero_found t.4))
     (λ (held : x ≢ 0).
     (w, keeps, tt, looks plan s r (suc (suc z)) id me.0 w (omega arith) at (fits r.log r.standings r.holder r.holders (r.each id me.0 at)) spare same book cells, miss x held))
 
-pub taking_zone : (plan : Plan) (counts : Bool) (slots id z : ℕ) (me : Mine) → me.0.kind ≡ Queue → z + 1 < slots → Allows (Rule plan) slots id me (z + 2) (λ n. either (eqb n 0) 1 n) (TakesZone counts (step slots (z + 2) 0 1 none) me)
-taking_zone plan counts slots id z me is near =
+pub taking_zone : (plan : Plan) (counts : Bool) (slots id z : ℕ) (me : Mine) → me.0.geometry ≡ plan.fields → me.0.kind ≡ Queue → z + 1 < slots → Allows (Rule plan) slots id me (z + 2) (λ n. either (eqb n 0) 1 n) (TakesZone counts (step slots (z + 2) 0 1 none) me)
+taking_zone plan counts slots id z me same is near =
     let e : suc (suc z) ≡ z + 2 = omega arith in
     let m = misses plan counts id (z + 2) me.0 in
     subst (λ (k : ℕ). Allows (Rule plan) slots id me k (λ n. either (eqb n 0) 1 n) (TakesZone counts (step slots (z + 2) 0 1 none) me)) e
-    (zone_taken plan slots id z me (missed_if counts me.0 (z + 2)) (TakesZone counts (step slots (z + 2) 0 1 none) me) is near
+    (zone_taken plan slots id z me same (missed_if counts me.0 (z + 2)) (TakesZone counts (step slots (z + 2) 0 1 none) me) is near
     (λ x m' found t. ((λ _. t), λ ne. absurd (ne found))) (λ x held. ((λ found. absurd (held found)), λ _. refl)) m.fits m.spare m.same m.book m.cells)
 
 -- ---- the book's word

@@ -2,6 +2,7 @@ pub mod Lists
 pub mod Views
 pub mod Parts
 pub mod Carried
+pub mod Moved
 pub mod Given
 pub mod Keeps
 pub mod Commits
@@ -10,3 +11,5 @@ pub mod Seats
 pub mod Ends
 pub mod Shelves
 pub mod Notes
+pub mod Crossing
+pub mod Idle

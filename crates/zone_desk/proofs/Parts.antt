@@ -115,8 +115,8 @@ new-cells g j g' cells b s is = s.all_stand ∙ (λ i. zones_at (is i).geometry 
 
 -- ---- one act
 
-pub parts-stand : (g : GeometryFields) (a : Act) (cells : List Cell) (b : Book) → b ≡ ledger_at g b.journal → AreAt g b.journal.acts cells → AreLent g a (zones_in cells) → length b.journal.acts + b.journal.spare < 2 ^ 32 → PartsStand g a cells b
-parts-stand g a cells b is at lent small = record { book_stands = ledger-book g b is; cells_stand = at; lent = lent; small = omega (arith, small) }
+pub parts-stand : (g : GeometryFields) (a : Act) (cells : List Cell) (b : Book) → b ≡ ledger_at g b.journal → AreAt g b.journal.acts cells → AreLent g a (zones_in cells) → PartsStand g a cells b
+parts-stand g a cells b is at lent = record { book_stands = ledger-book g b is; cells_stand = at; lent = lent }
 
 applied-served : (g : GeometryFields) (a : Act) (p : Posted) (cells cells' : List Cell) (b b' : Book) (out out' : List ℕ) → IsApplied g a p cells cells' b b' out out' → IsServed g a p cells cells' b b' out out'
 applied-served g a p cells cells' b b' out out' d = record {

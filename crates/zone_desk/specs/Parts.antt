@@ -12,6 +12,7 @@ use Rattle.drive_book.specs.declared.book.Book.{Book}
 use Rattle.drive_book.specs.declared.posted.Posted.{Posted}
 use Rattle.drive_book.specs.Books.{book_at}
 use Rattle.solo_drive.specs.Drives.{drive_of, entries_for, bytes_for}
+use Rattle.solo_drive.specs.Ahead.{HaveHistory}
 use Rattle.solo_drive.specs.Parts.{cell_at, cells_at, CellsStand}
 
 -- ---- cells
@@ -31,6 +32,10 @@ AreAt g acts cells = CellsStand g (answered g acts) cells
 -- one of the cells is of the zone
 abbrev pub HasZone : ℕ → List Cell → Type 0
 HasZone z cells = (i : ℕ) × ((c : Cell) × (get_elem? cells i ≡ some c) × (c.zone ≡ z))
+
+-- there are acts that these cells stand for
+abbrev pub HasBeen : GeometryFields → List Cell → Type 0
+HasBeen g cells = HaveHistory g cells
 
 -- The act that comes after these leaves each zone as it was, other than those of the cells.
 abbrev pub Covers : GeometryFields → List Act → Act → List Cell → Type 0
@@ -55,6 +60,11 @@ abbrev pub journal_at : ℕ → List Act → KeptActs
 journal_at room acts = record { acts = acts; spare = room - length acts }
 
 -- ---- answers
+
+-- An act was answered as the definitions say of it after the acts of a journal, beside the bytes that it reads.
+pub record IsEntered (g : GeometryFields) (j : KeptActs) (a : Act) (p : Posted) : Type 0 where
+  pub entries : p.entries.items ≡ entries_for (drive_of g j) a
+  pub len : p.len ≡ length (bytes_for (drive_of g j) a)
 
 -- An act was answered as the definitions say of it after the acts of a journal.
 pub record IsAnswered (g : GeometryFields) (j : KeptActs) (a : Act) (p : Posted) (out out' : List ℕ) : Type 0 where

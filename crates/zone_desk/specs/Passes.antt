@@ -10,12 +10,19 @@ use Rattle.zone_cell.specs.Cells.{Cell}
 use Rattle.zone_model.specs.declared.act.Act.{Act}
 use Rattle.zone_model.specs.Kept.{KeptActs}
 use Rattle.zone_model.specs.Sessions.{acts_of}
+use Rattle.zone_model.specs.Places.{command_of}
+use Rattle.zone_model.specs.Answers.{answered}
 use Rattle.zone_model.specs.Zones.{zones}
+use Rattle.solo_drive.specs.Ahead.{goes_ahead, opened_at, GoesAhead}
 use Rattle.drive_book.specs.declared.book.Book.{Book}
 use Rattle.drive_book.specs.declared.posted.Posted.{Posted}
+use Rattle.sqe_codec.specs.declared.sqe.Sqe.{Sqe}
+use Rattle.solo_drive.specs.Drives.{act_of}
+use Rattle.solo_drive.specs.declared.ahead.Ready.{Ready}
 use Rattle.solo_drive.specs.declared.applied.Applied.{Applied}
 use Rattle.solo_drive.specs.declared.applied.Applied.TheVariants as applied
-use Rattle.zone_desk.specs.Parts.{zone_at, AreAt, wants_room, ledger_at, IsAnswered}
+use Rattle.zone_desk.specs.Parts.{zone_at, AreAt, HasBeen, wants_room, ledger_at, IsAnswered, IsEntered}
+use Rattle.zone_desk.specs.Ahead.{Open, open_act, Bears, IsTold}
 use Rattle.zone_desk.specs.Rules.{Stands}
 use Rattle.zone_desk.specs.Sights.{in_order, zones_held, with_cells, with_journal, log_of, committed, joined}
 use Rattle.zone_desk.specs.Plays.{Mine, IsFresh}
@@ -34,18 +41,23 @@ pub record DeskId : Type 0 where
   pub table : TableId
   pub geometry : GeometryFields
 
--- the desk that a pass is of, and what the pass knows
+-- the desk that a pass is of, what the pass knows, and its open command
 pub record Pass : Type 0 where
   pub desk : DeskId
   pub sight : Sight
+  pub opened : Option Open
 
 -- the pass of a seat
-abbrev pub pass_of : TableId → Sight → Pass
-pass_of table v = record { desk = record { table = table; geometry = v.geometry }; sight = v }
+abbrev pub pass_of : TableId → Sight → Option Open → Pass
+pass_of table v opened = record { desk = record { table = table; geometry = v.geometry }; sight = v; opened = opened }
 
 -- the same pass, which knows this
 abbrev pub knowing : Pass → Sight → Pass
-knowing p v = record { desk = p.desk; sight = v }
+knowing p v = record { desk = p.desk; sight = v; opened = p.opened }
+
+-- the same pass, with this command open
+abbrev pub with_open : Pass → Option Open → Pass
+with_open p o = record { desk = p.desk; sight = p.sight; opened = o }
 
 -- ---- taking words, and serving an act
 
@@ -54,11 +66,13 @@ abbrev pub IsAbove : ℕ → List Cell → Type 0
 IsAbove word [] = Unit {0}
 IsAbove word (c ∷ cs) = c.zone + 2 < word
 
--- The word is that of a zone above those that the pass has, or the book's, which it doesn't hold yet.
-pub record MayTake (g : GeometryFields) (v : Sight) (word : ℕ) : Type 0 where
-  pub before_book : v.journal ≡ None
+-- The word is that of a zone above those that the pass has, or the book's, which it doesn't hold yet. While a command is
+-- open no zone is added.
+pub record MayTake (g : GeometryFields) (p : Pass) (word : ℕ) : Type 0 where
+  pub before_book : p.sight.journal ≡ None
   pub within : (1 ≤ word) × (word < g.zones + 2)
-  pub rising : word ≢ 1 → IsAbove word v.cells
+  pub rising : word ≢ 1 → IsAbove word p.sight.cells
+  pub none_open : word ≢ 1 → p.opened ≡ None
 
 -- The pass has the zone's cell. All else stays.
 abbrev pub HasTakenZone : ℕ → Pass → Pass → Type 0
@@ -92,6 +106,36 @@ abbrev pub HasApplied : Pass → Pass → Act → List ℕ → List ℕ → Appl
 HasApplied p p' a out out' (applied.Done posted) = IsCommitted p p' a posted out out'
 HasApplied p p' a out out' (applied.Widen payload) = IsNarrow p p' a payload out out'
 
+-- ---- commands that move their bytes before the book is taken
+
+-- after these acts the act goes ahead, or waits for the book
+abbrev pub IsAheadAt : GeometryFields → List Act → Act → Bool → Type 0
+IsAheadAt g log a b = goes_ahead g (opened_at g (answered g log)) (command_of a) ≡ b
+
+-- The command is open. What the cells of the view stand for isn't known yet: for each list of acts that they do, this is
+-- what the act reads after them.
+pub record IsReadied (p p' : Pass) (o : Open) (out out' : List ℕ) : Type 0 where
+  pub pass : p' ≡ with_open p (Some o)
+  pub ahead : (log : List Act) → AreAt p.desk.geometry log p.sight.cells → IsAheadAt p.desk.geometry log (open_act p.sight.queue o) true
+  pub told : (log : List Act) → AreAt p.desk.geometry log p.sight.cells → IsTold p.desk.geometry (open_act p.sight.queue o) log o.ready out out'
+
+-- Nothing changed: the command is another one, as its zone's cell shows.
+pub record IsWaiting (p p' : Pass) (a : Act) (out out' : List ℕ) : Type 0 where
+  pub other : GoesAhead p.desk.geometry a (in_order p.sight.cells) false
+  pub pass : p' ≡ p
+  pub unread : out' ≡ out
+
+abbrev pub HasReadied : Pass → Pass → Sqe → List ℕ → List ℕ → List ℕ → Option Ready → Type 0
+HasReadied p p' sqe payload out out' (Some r) = IsReadied p p' record { sqe = sqe; payload = payload; ready = r } out out'
+HasReadied p p' sqe payload out out' None = IsWaiting p p' (act_of p.sight.queue sqe payload) out out'
+
+-- One commit added the act of the open command to the journal that the pass has, and it was answered as the definitions
+-- say of it there. No other zone has to give way.
+pub record HasSettled (p p' : Pass) (a : Act) (posted : Posted) : Type 0 where
+  pub pass : p' ≡ with_open (knowing p (committed p.sight a)) None
+  pub entered : (j : KeptActs) → p.sight.journal ≡ Some j → IsEntered p.desk.geometry j a posted
+  pub narrow : wants_room p.desk.geometry (log_of p.sight) a ≡ false
+
 -- ---- what a desk and its passes keep
 
 -- the places that are empty, the last taken first
@@ -118,30 +162,34 @@ abbrev pub AreWithin : ℕ → List Cell → Type 0
 AreWithin words [] = Unit {0}
 AreWithin words (c ∷ cs) = (c.zone + 2 < words) × AreWithin words cs
 
--- what a pass has is what its view says
-pub record Carries (words : ℕ) (book : Option Book) (cells : List Cell) (me : Mine) : Type 0 where
+-- What a pass has is what its view says, but for what its open command made of the cells. There are acts that the cells of
+-- the view stand for.
+pub record Carries (words : ℕ) (opened : Option Open) (book : Option Book) (cells : List Cell) (me : Mine) : Type 0 where
   pub book_is : IsCarried me.0 book me.0.journal
-  pub cells_are : cells ≡ in_order me.0.cells
+  pub cells_are : Bears me.0.geometry me.0.queue opened me.0.cells cells
+  pub been : HasBeen me.0.geometry me.0.cells
   pub empty : me.1 ≡ emptied me.0.journal me.0.cells
   pub rising : AreRising me.0.cells
   pub within : AreWithin words me.0.cells
 
--- a word and a place for each zone of the drive and for the book, and room for the cells at the end
-pub record DeskStands (table : TableId) (g : GeometryFields) (plan : Plan) (shelf : Vec Cell) : Type 0 where
+-- a word and a place for each zone of the drive and for the book, a count of those who wait for each word, and room for
+-- the cells at the end
+pub record DeskStands (table : TableId) (g : GeometryFields) (plan : Plan) (shelf : Vec Cell) (counts : ℕ) : Type 0 where
   pub words : table.words ≡ g.zones + 2
   pub slots : table.slots ≡ g.zones + 1
   pub geometry : g ≡ plan.fields
   pub empty : shelf.items ≡ []
   pub room : g.zones ≤ vec_capacity shelf
+  pub waiting : counts ≡ g.zones + 2
 
 -- what a pass keeps is what its seat knows
-pub record PassStands (number acts room : ℕ) (book : Option Book) (cells : Vec Cell) (table : TableId) (me : Mine) : Type 0 where
+pub record PassStands (number acts room : ℕ) (opened : Option Open) (book : Option Book) (cells : Vec Cell) (table : TableId) (me : Mine) : Type 0 where
   pub queue : number ≡ me.0.queue
   pub served : acts ≡ length me.0.own
   pub spare : room ≡ me.0.spare
   pub small : acts + room < 2 ^ 32
   pub kind : me.0.kind ≡ Queue
-  pub carries : Carries table.words book cells.items me
+  pub carries : Carries table.words opened book cells.items me
   pub fits : table.words ≤ vec_capacity cells + 2
   pub within : me.0.queue < me.0.geometry.queues
 

@@ -7,7 +7,7 @@ use Rattle.zone_cell.specs.Cells.{Cell}
 use Rattle.zone_model.specs.declared.act.Act.{Act}
 use Rattle.zone_model.specs.Kept.{KeptActs}
 use Rattle.zone_model.specs.Sessions.{acts_of}
-use Rattle.zone_desk.specs.Parts.{AreAt, ledger_at}
+use Rattle.zone_desk.specs.Parts.{AreAt, ledger_at, HasBeen}
 use Rattle.zone_desk.specs.Sights.{missed_if, with_cells, with_journal, committed, gave, without_last}
 use Rattle.zone_desk.specs.declared.slot.Slot.{Slot}
 use Rattle.zone_desk.specs.declared.slot.Slot.TheVariants.{Ledger, Zone}
@@ -30,9 +30,9 @@ pub record IsFresh (g : GeometryFields) (v : Sight) (j : KeptActs) : Type 0 wher
 abbrev pub TookBook : Mine → Mine → Type 0
 TookBook m m' = (j : KeptActs) × (m'.0 ≡ with_journal m.0 j) × (m'.1 ≡ (0, Ledger (ledger_at m.0.geometry j)) ∷ m.1) × IsFresh m.0.geometry m.0 j
 
--- a zone's word was free, and its cell was taken
+-- A zone's word was free, and its cell was taken. The cells that the seat has stand for the same acts.
 abbrev pub TookZone : ℕ → Mine → Mine → Type 0
-TookZone word m m' = (c : Cell) × (m'.0 ≡ with_cells m.0 (c ∷ m.0.cells)) × (m'.1 ≡ (suc c.zone, Zone c) ∷ m.1) × (c.zone + 2 ≡ word)
+TookZone word m m' = (c : Cell) × (m'.0 ≡ with_cells m.0 (c ∷ m.0.cells)) × (m'.1 ≡ (suc c.zone, Zone c) ∷ m.1) × (c.zone + 2 ≡ word) × HasBeen m.0.geometry (c ∷ m.0.cells)
 
 -- takes: where the word was held, that is counted, or nothing changed
 abbrev pub TakesBook : Bool → Step Slot → Mine → ℕ → Mine → Type 0

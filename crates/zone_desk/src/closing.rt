@@ -41,10 +41,12 @@ pub(crate) fn absorb_all(board: &Board, seat: &mut Place, passes: Vec<QueuePass>
             spare: _,
             book,
             cells,
+            open,
             seat: other,
         } = pass;
         drop(book);
         drop(cells);
+        drop(open);
         board.join_seat::<Absorb>(seat, other);
     }
 }
@@ -102,7 +104,7 @@ pub(crate) fn finish(
     closed.free();
     Parts {
         cells,
-        book,
+        book: book.into_book(),
         geometry,
     }
 }

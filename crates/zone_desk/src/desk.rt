@@ -1,9 +1,9 @@
 ghost use Rattle.std.specs.Prelude.{◌≡◌, ◌≢◌, ◌+◌, ◌-◌, ◌<◌, ◌≤◌, true, false, length, IfOk, IfErr};
-ghost use Rattle.std.specs.Prelude.{None};
+ghost use Rattle.std.specs.Prelude.{None, []};
 ghost use Rattle.solo_drive.specs.Drives.{HasLengths, act_of};
 ghost use Rattle.solo_drive.specs.Parts.{AreLent};
 ghost use Rattle.zone_desk.specs.Sights.{first_sight, queue_sight, note_sight, made, given};
-ghost use Rattle.zone_desk.specs.Sights.{zones_held, missed, missed_if, told};
+ghost use Rattle.zone_desk.specs.Sights.{zones_held, missed, missed_if, told, gave_out};
 ghost use mathlib.Core.List.{IsPrefix};
 ghost use Rattle.zone_desk.specs.Passes.{knowing, is_taken, IsRefused, IsAbove, MayTake, HasTaken};
 ghost use Rattle.zone_desk.specs.Passes.{HasTakenBook, HasTakenZone, HasApplied};
@@ -21,6 +21,7 @@ use crate::serving::serve_on;
 use crate::sight::Sight;
 use crate::slot::Slot;
 use crate::steps::{BOOK, HISTORY, LEDGER, commit, seat_for};
+use crate::waking::{no_one_waits, wait_for, wake};
 use atomic_table::Table;
 use solo_drive::{Applied, Parts, Solo};
 use sqe_codec::Sqe;
@@ -28,6 +29,7 @@ use std::alloc::Global;
 use std::marker::{Brand, Model};
 use std::snapshot::Snapshot;
 use std::sync::Wait;
+use std::sync::atomic::AtomicU32;
 use zns_io::{Bytes, NoMemory};
 use zns_types::Geometry;
 use zone_cell::ZoneCell;
@@ -35,13 +37,16 @@ use zone_cell::ZoneCell;
 /// A drive that several queues share. Word 1 is the book's lock word, and word 2 + z zone z's.
 #[derive(Drop)]
 pub struct Desk {
-    geometry: Geometry,
-    table: Table<Slot, Sight, Plan, Law, Global>,
+    pub(crate) geometry: Geometry,
+    pub(crate) table: Table<Slot, Sight, Plan, Law, Global>,
     // Room for the cells at the end.
     shelf: Vec<ZoneCell>,
+    // How many wait, for each word.
+    waiting: Vec<AtomicU32>,
 }
 
 impl Model for Desk {
+    ghost use Rattle.std.specs.Prelude.{vec_len};
     ghost use Rattle.zone_desk.specs.Passes.{DeskId, DeskStands};
 
     ghost Value = { DeskId };
@@ -49,7 +54,7 @@ impl Model for Desk {
     ghost view = { λ d. record { table = d.table.shared.table_id; geometry = d.geometry.fields } };
 
     ghost invariant = { λ d. DeskStands d.table.shared.table_id d.geometry.fields
-        d.table.shared.key d.shelf };
+        d.table.shared.key d.shelf (vec_len d.waiting) };
 }
 
 impl Desk {
@@ -62,26 +67,40 @@ impl Desk {
         ensures sight { IfOk result
             (λ d. d.1.sight ≡ first_sight record { fields = g.fields; room = room }) }
     {
-        let zones = g.fields.zones as usize;
-        let shelf = Vec::with_capacity(alloc, zones)?;
-        let given = Vec::from_elem(alloc, false, g.fields.queues as usize)?;
-        let words = Vec::from_elem(alloc, 0u64, zones + 2)?;
+        let drive = Solo::new(alloc, g, room)?;
+        Desk::over(alloc, drive)
+    }
+
+    /// The desk that `new` gives, of a drive that was made before.
+    pub fn over(alloc: Global, drive: Solo) -> Result<(Desk, MainPass), NoMemory>
+        requires room { drive.spare ≤ 262144 }
+        requires fresh { drive.acts ≡ [] }
+        ensures desk { IfOk result (λ d. d.0.geometry ≡ drive.geometry) }
+        ensures main { IfOk result (λ d. d.1.desk ≡ d.0) }
+        ensures sight { IfOk result
+            (λ d. d.1.sight ≡ first_sight record { fields = drive.geometry; room = drive.spare }) }
+    {
+        let room = drive.spare();
         let Parts {
             cells,
             book,
-            geometry: _,
-        } = Solo::new(alloc, g, room)?.into_parts();
+            geometry,
+        } = drive.into_parts();
+        let fields = geometry.fields;
+        let zones = fields.zones as usize;
+        let shelf = Vec::with_capacity(alloc, zones)?;
+        let given = Vec::from_elem(alloc, false, fields.queues as usize)?;
+        let waiting = no_one_waits(alloc, zones + 2)?;
+        let words = Vec::from_elem(alloc, 0u64, zones + 2)?;
         let slots = places(alloc, book, cells)?;
-        let plan = Plan {
-            fields: g.fields,
-            room,
-        };
+        let plan = Plan { fields, room };
         match Table::new(alloc, words.as_slice(), slots, &plan) {
             Ok((table, seat)) => Ok((
                 Desk {
-                    geometry: g,
+                    geometry,
                     table,
                     shelf,
+                    waiting,
                 },
                 MainPass {
                     left: room,
@@ -120,6 +139,7 @@ impl Desk {
         ensures desk { IfOk result (λ p. p.desk ≡ self.now) }
         ensures sight { IfOk result (λ p. p.sight
             ≡ queue_sight self.now.geometry queue main.old.sight.seen room) }
+        ensures none_open { IfOk result (λ p. p.opened ≡ None) }
         ensures free { IfOk result (λ p. is_taken main.old.sight.standings queue ≡ false) }
         ensures room { IfOk result (λ p. room ≤ main.old.sight.spare) }
         ensures refused { IfErr result (λ e. IsRefused main.old.sight queue room e) }
@@ -143,6 +163,7 @@ impl Desk {
             spare: room,
             book: None,
             cells,
+            open: None,
             seat,
         })
     }
@@ -151,14 +172,14 @@ impl Desk {
     /// the book, or the zone's cell. The words of zones are taken rising, and then the book's.
     pub fn take_word<R: Wait>(&self, rt: &R, pass: &mut QueuePass, word: u32)
         requires desk { pass.old.desk ≡ self.now }
-        requires next { MayTake self.now.geometry pass.old.sight word }
+        requires next { MayTake self.now.geometry pass.old word }
         ensures { HasTaken word pass.old pass.new }
     {
         for _ in rt.forever() {
             if self.step_word::<Waiting>(pass, word) {
                 return;
             }
-            self.table.shared.park(rt, word as usize, 1);
+            wait_for(rt, &self.table.shared, &self.waiting, word as usize);
         }
         unreachable!()
     }
@@ -167,7 +188,7 @@ impl Desk {
     /// one step finds the word held, which is counted.
     pub fn try_word(&self, pass: &mut QueuePass, word: u32) -> bool
         requires desk { pass.old.desk ≡ self.now }
-        requires next { MayTake self.now.geometry pass.old.sight word }
+        requires next { MayTake self.now.geometry pass.old word }
         ensures taken { result ≡ true → HasTaken word pass.old pass.new }
         ensures held { result ≡ false
             → pass.new ≡ knowing pass.old (missed pass.old.sight word) }
@@ -178,7 +199,7 @@ impl Desk {
     // One step: where the word is free, the pass has it, and its part.
     fn step_word<C: Counting>(&self, pass: &mut QueuePass, word: u32) -> bool
         requires desk { pass.old.desk ≡ self.now }
-        requires next { MayTake self.now.geometry pass.old.sight word }
+        requires next { MayTake self.now.geometry pass.old word }
         ensures taken { result ≡ true → HasTaken word pass.old pass.new }
         ensures held { result ≡ false
             → pass.new ≡ knowing pass.old (missed_if C.counts pass.old.sight word) }
@@ -210,6 +231,7 @@ impl Desk {
     fn step_zone<C: Counting>(&self, pass: &mut QueuePass, zone: u32) -> bool
         requires desk { pass.old.desk ≡ self.now }
         requires free { pass.old.sight.journal ≡ None }
+        requires none_open { pass.old.opened ≡ None }
         requires zone { zone < self.now.geometry.zones }
         requires rising { IsAbove (zone + 2) pass.old.sight.cells }
         ensures taken { result ≡ true → HasTakenZone zone pass.old pass.new }
@@ -240,6 +262,7 @@ impl Desk {
         out: &mut [u8],
     ) -> Applied
         requires desk { pass.old.desk ≡ self.now }
+        requires none_open { pass.old.opened ≡ None }
         requires journal { pass.old.sight.journal ≢ None }
         requires zones { AreLent self.now.geometry (act_of pass.old.sight.queue sqe payload)
             (zones_held pass.old.sight) }
@@ -276,7 +299,19 @@ impl Desk {
     /// Gives all parts back, and frees the words that the pass holds.
     pub fn put_back(&self, pass: &mut QueuePass)
         requires desk { pass.old.desk ≡ self.now }
+        requires none_open { pass.old.opened ≡ None }
         ensures { pass.new ≡ knowing pass.old (given pass.old.sight) }
+    {
+        self.give_book(pass);
+        let board = &self.table.shared;
+        free_zones(board, &self.waiting, &mut pass.seat, &mut pass.cells);
+    }
+
+    /// Gives the book back where the pass has it, and frees its word. The pass keeps the words of
+    /// its zones, and their cells.
+    pub fn give_book(&self, pass: &mut QueuePass)
+        requires desk { pass.old.desk ≡ self.now }
+        ensures { pass.new ≡ knowing pass.old (gave_out pass.old.sight pass.old.sight.journal) }
     {
         let board = &self.table.shared;
         if let Some(book) = pass.book.take() {
@@ -284,9 +319,8 @@ impl Desk {
                 unreachable!()
             };
             board.store::<FreeBook>(&mut pass.seat, BOOK, 0);
-            board.wake_one(BOOK);
+            wake(board, &self.waiting, BOOK);
         }
-        free_zones(board, &mut pass.seat, &mut pass.cells);
     }
 
     /// A note of what the pass has seen.
@@ -330,7 +364,9 @@ impl Desk {
             geometry,
             table,
             shelf,
+            waiting,
         } = self;
+        drop(waiting);
         let MainPass {
             left: _,
             given,

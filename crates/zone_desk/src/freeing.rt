@@ -1,5 +1,5 @@
 //! The steps that give cells back.
-ghost use Rattle.std.specs.Prelude.{◌≡◌, ◌+◌, ◌<◌, [], ◌∷◌, List, None, vec_capacity};
+ghost use Rattle.std.specs.Prelude.{◌≡◌, ◌+◌, ◌<◌, [], ◌∷◌, List, length, None, vec_capacity};
 ghost use Rattle.atomic_table.specs.Table.{rest};
 ghost use Rattle.zone_cell.specs.Cells.{Cell};
 ghost use Rattle.zone_desk.specs.Sights.{in_order, with_cells, without_last};
@@ -9,11 +9,14 @@ ghost use Rattle.zone_desk.specs.declared.sight.Kind.TheVariants.{Queue};
 use crate::plays::FreeZone;
 use crate::slot::Slot;
 use crate::steps::{Board, Place};
+use crate::waking::wake;
+use std::sync::atomic::AtomicU32;
 use zone_cell::ZoneCell;
 
 // Gives the cell back that was taken last, and frees its zone's word.
-fn free_zone(board: &Board, seat: &mut Place, cell: ZoneCell)
+fn free_zone(board: &Board, waiting: &[AtomicU32], seat: &mut Place, cell: ZoneCell)
     requires table { seat.old.table_id ≡ board.now.table_id }
+    requires counts { length waiting.now ≡ board.now.table_id.words }
     requires word { cell.zone + 2 < board.now.table_id.words }
     requires kind { seat.old.me.0.kind ≡ Queue }
     requires book { seat.old.me.0.journal ≡ None }
@@ -27,12 +30,18 @@ fn free_zone(board: &Board, seat: &mut Place, cell: ZoneCell)
         unreachable!()
     };
     board.store::<FreeZone>(seat, zone + 2, 0);
-    board.wake_one(zone + 2);
+    wake(board, waiting, zone + 2);
 }
 
 /// Gives all cells back, the last taken first, and frees their zones' words.
-pub(crate) fn free_zones(board: &Board, seat: &mut Place, cells: &mut Vec<ZoneCell>)
+pub(crate) fn free_zones(
+    board: &Board,
+    waiting: &[AtomicU32],
+    seat: &mut Place,
+    cells: &mut Vec<ZoneCell>,
+)
     requires table { seat.old.table_id ≡ board.now.table_id }
+    requires counts { length waiting.now ≡ board.now.table_id.words }
     requires words { AreWithin board.now.table_id.words seat.old.me.0.cells }
     requires kind { seat.old.me.0.kind ≡ Queue }
     requires book { seat.old.me.0.journal ≡ None }
@@ -44,6 +53,6 @@ pub(crate) fn free_zones(board: &Board, seat: &mut Place, cells: &mut Vec<ZoneCe
     ensures room { vec_capacity cells.new ≡ vec_capacity cells.old }
 {
     while let Some(cell) = cells.pop() {
-        free_zone(board, seat, cell);
+        free_zone(board, waiting, seat, cell);
     }
 }

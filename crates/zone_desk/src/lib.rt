@@ -2,9 +2,12 @@
 //! that only grows, and a pass for each queue.
 #![tactic(auto)]
 
+mod ahead;
 mod closing;
 mod desk;
 mod freeing;
+mod kept_book;
+mod opened;
 mod opening;
 mod passes;
 mod plan;
@@ -16,6 +19,7 @@ mod steps;
 #[cfg(test)]
 mod tests;
 mod threads;
+mod waking;
 
 pub use desk::Desk;
 pub use passes::{MainPass, Note, PassErr, QueuePass};

@@ -2,6 +2,7 @@
 ghost use Rattle.std.specs.Prelude.{◌≡◌, ◌∷◌, IfOk, map};
 ghost use Rattle.zone_desk.specs.declared.slot.Slot.TheVariants.{Ledger, Zone};
 
+use crate::kept_book::KeptBook;
 use crate::slot::Slot;
 use solo_drive::Book;
 use std::alloc::Global;
@@ -13,7 +14,7 @@ pub(crate) fn places(alloc: Global, book: Book, cells: Vec<ZoneCell>) -> Result<
     ensures { IfOk result (λ v. v.items ≡ Ledger book ∷ map (λ c. Zone c) cells.items) }
 {
     let mut places = Vec::new(alloc);
-    places.push(Slot::Ledger(book))?;
+    places.push(Slot::Ledger(KeptBook::new(alloc, book)?))?;
     for cell in cells {
         places.push(Slot::Zone(cell))?;
     }

@@ -1,9 +1,10 @@
 ghost use Rattle.std.specs.Prelude.{◌≡◌, length};
 
+use crate::kept_book::KeptBook;
+use crate::opened::Opened;
 use crate::sight::Sight;
 use crate::slot::Slot;
 use atomic_table::Seat;
-use solo_drive::Book;
 use std::marker::Model;
 use zone_cell::ZoneCell;
 
@@ -30,11 +31,12 @@ pub struct MainPass {
 }
 
 impl Model for MainPass {
+    ghost use Rattle.std.specs.Prelude.{None};
     ghost use Rattle.zone_desk.specs.Passes.{Pass, pass_of, MainStands};
 
     ghost Value = { Pass };
 
-    ghost view = { λ p. pass_of p.seat.table_id p.seat.me.0 };
+    ghost view = { λ p. pass_of p.seat.table_id p.seat.me.0 None };
 
     ghost invariant = { λ p. MainStands p.left p.given.items p.seat.me };
 }
@@ -45,9 +47,11 @@ pub struct QueuePass {
     pub(crate) queue: u16,
     pub(crate) served: u32,
     pub(crate) spare: u32,
-    pub(crate) book: Option<Book>,
+    pub(crate) book: Option<KeptBook>,
     // In the order taken, with room for all zones.
     pub(crate) cells: Vec<ZoneCell>,
+    // The command whose bytes have moved in the cells.
+    pub(crate) open: Option<Opened>,
     pub(crate) seat: Seat<Slot, Sight>,
 }
 
@@ -56,9 +60,9 @@ impl Model for QueuePass {
 
     ghost Value = { Pass };
 
-    ghost view = { λ p. pass_of p.seat.table_id p.seat.me.0 };
+    ghost view = { λ p. pass_of p.seat.table_id p.seat.me.0 p.open };
 
-    ghost invariant = { λ p. PassStands p.queue p.served p.spare p.book p.cells
+    ghost invariant = { λ p. PassStands p.queue p.served p.spare p.open p.book p.cells
         p.seat.table_id p.seat.me };
 }
 
@@ -69,11 +73,12 @@ pub struct Note {
 }
 
 impl Model for Note {
+    ghost use Rattle.std.specs.Prelude.{None};
     ghost use Rattle.zone_desk.specs.Passes.{Pass, pass_of, NoteStands};
 
     ghost Value = { Pass };
 
-    ghost view = { λ n. pass_of n.seat.table_id n.seat.me.0 };
+    ghost view = { λ n. pass_of n.seat.table_id n.seat.me.0 None };
 
     ghost invariant = { λ n. NoteStands n.seat.me };
 }

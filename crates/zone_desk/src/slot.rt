@@ -1,4 +1,4 @@
-use solo_drive::Book;
+use crate::kept_book::KeptBook;
 use zone_cell::ZoneCell;
 
 /// What lies in a place of the table: the book, or the cell of a zone, and nothing while a pass has
@@ -6,6 +6,6 @@ use zone_cell::ZoneCell;
 #[derive(Drop)]
 pub enum Slot {
     Away,
-    Ledger(Book),
+    Ledger(KeptBook),
     Zone(ZoneCell),
 }

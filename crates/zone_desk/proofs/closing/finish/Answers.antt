@@ -5,6 +5,7 @@ use lib.ListN.{get_elem?}
 use Rattle.zns_types.specs.declared.fields.GeometryFields.{GeometryFields}
 use Rattle.zone_model.specs.Kept.{KeptActs}
 use Rattle.zone_model.specs.Zones.{zones}
+use Rattle.solo_drive.specs.Parts.{DriveStands}
 use Rattle.drive_book.specs.declared.book.Book.{Book}
 use Rattle.zone_desk.specs.Parts.{zone_at, zones_at, ledger_at}
 use Rattle.zone_desk.specs.Passes.{Ends, AreShelved}
@@ -44,7 +45,7 @@ returns-clause-stands c =
     let is : c.in-Ledger.book ≡ ledger_at g j = cc (same, c.requires.fields) in
     let shelved : AreShelved g j.acts (slots_items c.take.new.self.slots) g.zones = subst (λ (l : List Slot). AreShelved g j.acts l g.zones) (sym c.take.ensures.others.0) (subst (λ (f : GeometryFields). AreShelved f j.acts xs f.zones) (sym c.requires.fields) t.cells) in
     let cells : c.take_cells-cells.result.items ≡ zones_at g j.acts (zones g) = c.take_cells-cells.ensures.cells g j.acts shelved in
-    drive-stands g c.take_cells-cells.result.items c.in-Ledger.book j is cells t.ends.small
+    subst (DriveStands g c.take_cells-cells.result.items) (sym c.into_book.ensures) (drive-stands g c.take_cells-cells.result.items c.in-Ledger.book j is cells t.ends.small)
 
 pub returns-clause-ends : goal.returns-clause-ends
 returns-clause-ends c =
@@ -56,4 +57,4 @@ returns-clause-ends c =
     let same : Ledger (ledger_at plan.fields j) ≡ Ledger c.in-Ledger.book = some-injective (Ledger (ledger_at plan.fields j)) (Ledger c.in-Ledger.book) (sym t.book ∙ (c.take.ensures.value ∙ ap (λ (y : Slot). some y) c.in-Ledger.is)) in
     let book : ledger_at plan.fields j ≡ c.in-Ledger.book = cc same in
     let is : j ≡ c.in-Ledger.book.journal = sym (ledger-journal plan.fields j) ∙ ap (λ (b : Book). b.journal) book in
-    subst (Ends c.args.seat.me.0) is t.ends
+    subst (λ (x : Book). Ends c.args.seat.me.0 x.journal) (sym c.into_book.ensures) (subst (Ends c.args.seat.me.0) is t.ends)

@@ -8,11 +8,12 @@ use Rattle.drive_book.specs.declared.book.Book.{Book}
 use Rattle.solo_drive.specs.Drives.{act_of}
 use Rattle.solo_drive.specs.Parts.{zones_in}
 use Rattle.zone_desk.specs.Parts.{zones_at, AreAt, Covers, wants_room, ledger_at, with_act, IsAnswered}
-use Rattle.zone_desk.specs.Sights.{zones_held, acts_out, log_of, committed}
+use Rattle.zone_desk.specs.Sights.{in_order, zones_held, acts_out, log_of, committed}
 use Rattle.zone_desk.specs.Plays.{Mine}
+use Rattle.zone_desk.specs.Ahead.{Open, Bears}
 use Rattle.zone_desk.specs.Passes.{DeskId, Pass, knowing, IsCarried, Carries}
 use Rattle.zone_desk.proofs.Parts.{covering}
-use Rattle.zone_desk.proofs.Carried.{in_hand, carried_after, at-in_order, held-lent, held-covers}
+use Rattle.zone_desk.proofs.Carried.{in_hand, plain_cells, carried_after, at-in_order, held-lent, held-covers}
 use Rattle.zone_desk.proofs.desk.Desk.apply_act.Goals as goal
 
 pub serve_on-requires-clause-book : goal.serve_on-requires-clause-book
@@ -30,7 +31,7 @@ serve_on-requires-clause-cells c =
     let i = c.pass.invariant in
     let desk = ap (λ (p : Pass). p.desk) c.pass.view_is ∙ (c.requires.desk ∙ sym c.self.view_is) in
     let h = in_hand me.0 c.pass.inside.book b me.0.journal c.in-Some.is i.carries.book_is in
-    subst (λ (l : List Cell). AreAt c.self.inside.geometry.fields b.journal.acts l) (sym i.carries.cells_are)
+    subst (λ (l : List Cell). AreAt c.self.inside.geometry.fields b.journal.acts l) (sym (plain_cells c.pass.inside.seat.me.0.geometry c.pass.inside.seat.me.0.queue c.pass.inside.open c.pass.inside.seat.me.0.cells c.pass.inside.cells.items (ap (λ (p : Pass). p.opened) c.pass.view_is ∙ c.requires.none_open) i.carries.cells_are))
     (at-in_order c.self.inside.geometry.fields b.journal.acts me.0.cells (subst (λ (d : DeskId). AreAt d.geometry b.journal.acts me.0.cells) desk h.cells))
 
 pub serve_on-requires-clause-lent : goal.serve_on-requires-clause-lent
@@ -39,7 +40,7 @@ serve_on-requires-clause-lent c =
     let queue : c.pass.inside.queue ≡ c.args.pass.now.sight.queue = i.queue ∙ ap (λ (p : Pass). p.sight.queue) c.pass.view_is in
     held-lent c.self.inside.geometry.fields c.args.self.now.geometry c.pass.inside.seat.me.0 c.args.pass.now.sight c.pass.inside.cells.items
     (act_of c.pass.inside.queue c.args.sqe c.args.payload) (act_of c.args.pass.now.sight.queue c.args.sqe c.args.payload)
-    (ap (λ (d : DeskId). d.geometry) c.self.view_is) i.carries.cells_are (ap (λ (p : Pass). p.sight) c.pass.view_is) (ap (λ (n : ℕ). act_of n c.args.sqe c.args.payload) queue) c.requires.zones
+    (ap (λ (d : DeskId). d.geometry) c.self.view_is) (plain_cells c.pass.inside.seat.me.0.geometry c.pass.inside.seat.me.0.queue c.pass.inside.open c.pass.inside.seat.me.0.cells c.pass.inside.cells.items (ap (λ (p : Pass). p.opened) c.pass.view_is ∙ c.requires.none_open) i.carries.cells_are) (ap (λ (p : Pass). p.sight) c.pass.view_is) (ap (λ (n : ℕ). act_of n c.args.sqe c.args.payload) queue) c.requires.zones
 
 pub serve_on-requires-clause-spare : goal.serve_on-requires-clause-spare
 serve_on-requires-clause-spare c =
@@ -75,8 +76,8 @@ commit-requires-clause-zones c =
     let desk = ap (λ (p : Pass). p.desk) c.pass.view_is ∙ (c.requires.desk ∙ sym c.self.view_is) in
     let h = in_hand me.0 c.pass.inside.book b me.0.journal c.in-Some.is i.carries.book_is in
     let lent = held-lent g c.args.self.now.geometry me.0 old.sight c.pass.inside.cells.items a (act_of old.sight.queue c.args.sqe c.args.payload)
-    (ap (λ (d : DeskId). d.geometry) c.self.view_is) i.carries.cells_are (ap (λ (p : Pass). p.sight) c.pass.view_is) (ap (λ (n : ℕ). act_of n c.args.sqe c.args.payload) queue) c.requires.zones in
-    let covers : Covers g b.journal.acts a me.0.cells = held-covers g b.journal.acts a me.0.cells c.pass.inside.cells.items i.carries.cells_are (covering g b.journal.acts a c.pass.inside.cells.items lent c.in-Done.ensures.served.wide) in
+    (ap (λ (d : DeskId). d.geometry) c.self.view_is) (plain_cells c.pass.inside.seat.me.0.geometry c.pass.inside.seat.me.0.queue c.pass.inside.open c.pass.inside.seat.me.0.cells c.pass.inside.cells.items (ap (λ (p : Pass). p.opened) c.pass.view_is ∙ c.requires.none_open) i.carries.cells_are) (ap (λ (p : Pass). p.sight) c.pass.view_is) (ap (λ (n : ℕ). act_of n c.args.sqe c.args.payload) queue) c.requires.zones in
+    let covers : Covers g b.journal.acts a me.0.cells = held-covers g b.journal.acts a me.0.cells c.pass.inside.cells.items (plain_cells c.pass.inside.seat.me.0.geometry c.pass.inside.seat.me.0.queue c.pass.inside.open c.pass.inside.seat.me.0.cells c.pass.inside.cells.items (ap (λ (p : Pass). p.opened) c.pass.view_is ∙ c.requires.none_open) i.carries.cells_are) (covering g b.journal.acts a c.pass.inside.cells.items lent c.in-Done.ensures.served.wide) in
     subst (λ (x : List ℕ). Covers me.0.geometry (log_of me.0) (act_of c.pass.inside.queue c.args.sqe x) me.0.cells) (sym c.of-bytes.ensures)
     (subst (λ (o : Option KeptActs). Covers me.0.geometry (acts_out o) a me.0.cells) (sym h.out) (subst (λ (d : DeskId). Covers d.geometry b.journal.acts a me.0.cells) (sym desk) covers))
 
@@ -94,16 +95,17 @@ invariant_of-pass-in-Done c =
     let spare : 0 < me.0.spare = omega (arith, c.requires.spare, ap (λ (p : Pass). p.sight.spare) c.pass.view_is) in
     let now = c.commit.ensures.seat ∙ ap (λ (x : List ℕ). (committed me.0 (act_of queue c.args.sqe x), me.1)) c.of-bytes.ensures in
     let book = done.book_is ∙ ap (λ (g : GeometryFields). ledger_at g (with_act b.journal a)) same in
-    let cells = done.cells_are ∙ ap (λ (g : GeometryFields). zones_at g (b.journal.acts ++ a ∷ []) (zones_in c.pass.inside.cells.items)) same in
-    let carried = carried_after c.pass.inside.seat.table_id.words c.pass.inside.book c.pass.inside.cells.items me b c.serve_on.new.book c.serve_on.new.cells.items a i.carries h spare book cells in
+    let plain : c.pass.inside.cells.items ≡ in_order me.0.cells = (plain_cells c.pass.inside.seat.me.0.geometry c.pass.inside.seat.me.0.queue c.pass.inside.open c.pass.inside.seat.me.0.cells c.pass.inside.cells.items (ap (λ (p : Pass). p.opened) c.pass.view_is ∙ c.requires.none_open) i.carries.cells_are) in
+    let cells = done.cells_are ∙ ap (λ (g : GeometryFields). zones_at g (b.journal.acts ++ a ∷ []) (zones_in c.pass.inside.cells.items)) same ∙ ap (λ (l : List Cell). zones_at me.0.geometry (b.journal.acts ++ a ∷ []) (zones_in l)) plain in
+    let carried = carried_after c.pass.inside.seat.table_id.words c.pass.inside.open c.pass.inside.book c.pass.inside.cells.items me b c.serve_on.new.book c.serve_on.new.cells.items a i.carries h spare book cells in
     record {
       queue = i.queue ∙ sym (ap (λ (m : Mine). m.0.queue) now);
       served = omega (arith, i.served, length-append me.0.own (a ∷ []), ap (λ (m : Mine). length m.0.own) now);
       spare = ap (λ n. n - 1) i.spare ∙ sym (ap (λ (m : Mine). m.0.spare) now);
       small = omega (arith, i.small, i.spare, spare);
       kind = ap (λ (m : Mine). m.0.kind) now ∙ i.kind;
-      carries = subst (λ d. Carries d.words (Some c.serve_on.new.book) c.serve_on.new.cells.items c.commit.new.seat.me) (sym c.commit.ensures.table)
-          (subst (Carries c.pass.inside.seat.table_id.words (Some c.serve_on.new.book) c.serve_on.new.cells.items) (sym now) carried);
+      carries = subst (λ d. Carries d.words c.pass.inside.open (Some c.serve_on.new.book) c.serve_on.new.cells.items c.commit.new.seat.me) (sym c.commit.ensures.table)
+          (subst (Carries c.pass.inside.seat.table_id.words c.pass.inside.open (Some c.serve_on.new.book) c.serve_on.new.cells.items) (sym now) (subst (λ (o : Option Open). Carries c.pass.inside.seat.table_id.words o (Some c.serve_on.new.book) c.serve_on.new.cells.items (committed me.0 a, me.1)) (sym (ap (λ (p : Pass). p.opened) c.pass.view_is ∙ c.requires.none_open)) carried));
       fits = omega (arith, i.fits, ap (λ d. d.words) c.commit.ensures.table, c.serve_on.ensures.room);
       within = subst (λ (m : Mine). m.0.queue < m.0.geometry.queues) (sym now) i.within;
     }
@@ -120,7 +122,8 @@ invariant_of-pass c =
       kind = i.kind;
       carries = record {
         book_is = subst (λ (b : Book). IsCarried c.pass.inside.seat.me.0 (Some b) c.pass.inside.seat.me.0.journal) (sym same.same_book) (subst (λ (o : Option Book). IsCarried c.pass.inside.seat.me.0 o c.pass.inside.seat.me.0.journal) c.in-Some.is i.carries.book_is);
-        cells_are = same.same_cells ∙ i.carries.cells_are;
+        cells_are = subst (Bears c.pass.inside.seat.me.0.geometry c.pass.inside.seat.me.0.queue c.pass.inside.open c.pass.inside.seat.me.0.cells) (sym same.same_cells) i.carries.cells_are;
+        been = i.carries.been;
         empty = i.carries.empty;
         rising = i.carries.rising;
         within = i.carries.within;
@@ -140,9 +143,9 @@ returns-in-Done c =
     let done = c.in-Done.ensures.served in
     let h = in_hand me.0 c.pass.inside.book b me.0.journal c.in-Some.is i.carries.book_is in
     let now = c.commit.ensures.seat ∙ ap (λ (x : List ℕ). (committed me.0 (act_of queue c.args.sqe x), me.1)) c.of-bytes.ensures in
-    let first : Pass = record { desk = record { table = c.pass.inside.seat.table_id; geometry = me.0.geometry }; sight = committed me.0 a } in
-    let next : Pass = record { desk = record { table = c.commit.new.seat.table_id; geometry = c.commit.new.seat.me.0.geometry }; sight = c.commit.new.seat.me.0 } in
-    let viewed : next ≡ first = λ k. record { desk = record { table = c.commit.ensures.table k; geometry = (now k).0.geometry }; sight = (now k).0 } in
+    let first : Pass = record { desk = record { table = c.pass.inside.seat.table_id; geometry = me.0.geometry }; sight = committed me.0 a; opened = c.pass.inside.open } in
+    let next : Pass = record { desk = record { table = c.commit.new.seat.table_id; geometry = c.commit.new.seat.me.0.geometry }; sight = c.commit.new.seat.me.0; opened = c.pass.inside.open } in
+    let viewed : next ≡ first = λ k. record { desk = record { table = c.commit.ensures.table k; geometry = (now k).0.geometry }; sight = (now k).0; opened = c.pass.inside.open } in
     let same_queue : queue ≡ old.sight.queue = i.queue ∙ ap (λ (p : Pass). p.sight.queue) c.pass.view_is in
     let same : c.self.inside.geometry.fields ≡ old.desk.geometry = ap (λ (d : DeskId). d.geometry) (c.self.view_is ∙ sym c.requires.desk) in
     let out : old.sight.journal ≡ Some b.journal = ap (λ (p : Pass). p.sight.journal) (sym c.pass.view_is) ∙ h.out in
@@ -153,7 +156,7 @@ returns-in-Done c =
           let Told : GeometryFields → KeptActs → ℕ → Type 0 = λ g x n. IsAnswered g x (act_of n c.args.sqe c.args.payload) c.in-Done.posted c.args.out.now c.serve_on.new.out in
           subst (λ (g : GeometryFields). Told g j old.sight.queue) same (subst (λ (x : KeptActs). Told c.self.inside.geometry.fields x old.sight.queue) journal (subst (Told c.self.inside.geometry.fields b.journal) same_queue done.answer));
       wide =
-          let zones_are : zones_in c.pass.inside.cells.items ≡ zones_held old.sight = ap zones_in i.carries.cells_are ∙ ap (λ (p : Pass). zones_held p.sight) c.pass.view_is in
+          let zones_are : zones_in c.pass.inside.cells.items ≡ zones_held old.sight = ap zones_in (plain_cells c.pass.inside.seat.me.0.geometry c.pass.inside.seat.me.0.queue c.pass.inside.open c.pass.inside.seat.me.0.cells c.pass.inside.cells.items (ap (λ (p : Pass). p.opened) c.pass.view_is ∙ c.requires.none_open) i.carries.cells_are) ∙ ap (λ (p : Pass). zones_held p.sight) c.pass.view_is in
           let acts : b.journal.acts ≡ log_of old.sight = ap acts_out (sym out) in
           let Wide : GeometryFields → List Act → ℕ → List ℕ → Type 0 = λ g log n zs. (zs ≡ zones g) ⊎ (wants_room g log (act_of n c.args.sqe c.args.payload) ≡ false) in
           subst (λ (g : GeometryFields). Wide g (log_of old.sight) old.sight.queue (zones_held old.sight)) same
@@ -174,7 +177,7 @@ returns-in-Widen c =
     let same_queue : queue ≡ old.sight.queue = i.queue ∙ ap (λ (p : Pass). p.sight.queue) c.pass.view_is in
     let fields : c.self.inside.geometry.fields ≡ old.desk.geometry = ap (λ (d : DeskId). d.geometry) (c.self.view_is ∙ sym c.requires.desk) in
     let out : old.sight.journal ≡ Some b.journal = ap (λ (p : Pass). p.sight.journal) (sym c.pass.view_is) ∙ h.out in
-    let zones_are : zones_in c.pass.inside.cells.items ≡ zones_held old.sight = ap zones_in i.carries.cells_are ∙ ap (λ (p : Pass). zones_held p.sight) c.pass.view_is in
+    let zones_are : zones_in c.pass.inside.cells.items ≡ zones_held old.sight = ap zones_in (plain_cells c.pass.inside.seat.me.0.geometry c.pass.inside.seat.me.0.queue c.pass.inside.open c.pass.inside.seat.me.0.cells c.pass.inside.cells.items (ap (λ (p : Pass). p.opened) c.pass.view_is ∙ c.requires.none_open) i.carries.cells_are) ∙ ap (λ (p : Pass). zones_held p.sight) c.pass.view_is in
     let acts : b.journal.acts ≡ log_of old.sight = ap acts_out (sym out) in
     record {
       pass = c.pass.view_is;

@@ -11,7 +11,7 @@ use Rattle.zone_desk.specs.declared.plan.Plan.{Plan}
 use Rattle.zone_desk.specs.declared.slot.Slot.TheVariants.{Zone}
 use Rattle.zone_desk.specs.declared.sight.Sight.{Sight}
 use Rattle.zone_desk.proofs.Keeps.{taking_zone}
-use Rattle.zone_desk.proofs.Carried.{length-in_order, rising_length}
+use Rattle.zone_desk.proofs.Carried.{plain_cells, length-in_order, rising_length}
 use Rattle.zone_desk.proofs.desk.Desk.step_zone.Goals as goal
 
 pub compare_exchange-requires : goal.compare_exchange-requires
@@ -27,7 +27,7 @@ compare_exchange-requires g c =
       ap (λ (d : DeskId). d.table) desk,
       omega (arith, below, table.words),
       subst (λ (k : ℕ). Allows (Rule plan) slots c.pass.inside.seat.id me k (λ n. either (eqb n 0) 1 n) (TakesZone g.C.Counting.counts (step slots k 0 1 none) me)) word
-          (taking_zone plan g.C.Counting.counts slots c.pass.inside.seat.id z me c.pass.invariant.kind (omega (arith, below, table.slots))),
+          (taking_zone plan g.C.Counting.counts slots c.pass.inside.seat.id z me (ap (λ (d : DeskId). d.geometry) desk ∙ table.geometry) c.pass.invariant.kind (omega (arith, below, table.slots))),
     )
 
 pub exchange-requires : goal.exchange-requires
@@ -48,6 +48,6 @@ push_reserved-requires g c =
     let words = c.self.invariant.words in
     let desk = ap (λ (d : DeskId). d.table.words) (ap (λ (p : Pass). p.desk) c.pass.view_is ∙ (c.requires.desk ∙ sym c.self.view_is)) in
     let few = rising_length c.args.zone v.cells (subst (λ (p : Pass). IsAbove (c.args.zone + 2) p.sight.cells) (sym c.pass.view_is) c.requires.rising) i.carries.rising in
-    let long = ap (λ (l : List Cell). length l) i.carries.cells_are ∙ length-in_order v.cells in
+    let long = ap (λ (l : List Cell). length l) (plain_cells v.geometry v.queue c.pass.inside.open v.cells c.pass.inside.cells.items (ap (λ (p : Pass). p.opened) c.pass.view_is ∙ c.requires.none_open) i.carries.cells_are) ∙ length-in_order v.cells in
     let room = i.fits in
     omega (arith, c.pass.inside.cells.ok, below, words, desk, few, long, room)

@@ -6,7 +6,7 @@ use Rattle.zone_desk.specs.Plays.{Mine}
 use Rattle.zone_desk.specs.Passes.{DeskId, Pass}
 use Rattle.zone_desk.proofs.Frees.{freeing_book}
 use Rattle.zone_desk.proofs.Carried.{in_hand}
-use Rattle.zone_desk.proofs.desk.Desk.put_back.Goals as goal
+use Rattle.zone_desk.proofs.desk.Desk.give_book.Goals as goal
 
 pub store-requires : goal.store-requires
 store-requires c =
