@@ -43,8 +43,21 @@ none_at q (a ∷ acts) (suc i) d h none is =
     none_at q acts i d (omega arith) (elim (is_of q a) as (λ t. cond t (a ∷ acts_of q acts) (acts_of q acts) ≡ [] → acts_of q acts ≡ []) [ true ↦ λ e. absurd (cc e) | false ↦ λ e. e ] none) is
 
 -- so there is a list for its queue
-pub near_by : (said : List (VecDeque Reply Global)) (log : List Act) (n : ℕ) (x : Here log n) (q : ℕ) → q ≡ x.act.queue → n < length log → ((queue : ℕ) → length said ≤ queue → acts_of queue log ≡ []) → q < length said
+near_by : (said : List (VecDeque Reply Global)) (log : List Act) (n : ℕ) (x : Here log n) (q : ℕ) → q ≡ x.act.queue → n < length log → ((queue : ℕ) → length said ≤ queue → acts_of queue log ≡ []) → q < length said
 near_by said log n x q mine inside others = lt_of_not-le (λ far. none_at q log n x.act inside (others q far) (ap (λ (a : Act). a.queue) x.at ∙ sym mine))
+
+-- the act whose reply is the next, of this queue, which has a list
+pub record Turn (said : List (VecDeque Reply Global)) (log : List Act) (n q : ℕ) : Type 0 where
+  pub place : Here log n
+  pub mine : q ≡ place.act.queue
+  pub near : q < length said
+
+pub turn : (said : List (VecDeque Reply Global)) (log acts : List Act) (n q : ℕ) → acts ≡ log → n < length acts → ((d : Act) → q ≡ (get_or acts n d).queue) → ((queue : ℕ) → length said ≤ queue → acts_of queue log ≡ []) → Turn said log n q
+turn said log acts n q same within is others =
+    let inside : n < length log = subst (λ (l : List Act). n < length l) same within in
+    let x = here log n inside in
+    let mine : q ≡ x.act.queue = is x.act ∙ (ap (λ (l : List Act). (get_or l n x.act).queue) same ∙ ap (λ (a : Act). a.queue) x.at) in
+    record { place = x; mine = mine; near = near_by said log n x q mine inside others }
 
 -- the next act's reply is the first of its queue
 pub first_said : (g : GeometryFields) (before acts : List Act) (a : Act) (said : List (VecDeque Reply Global)) (d : VecDeque Reply Global) → AllSaid g before (a ∷ acts) said → get_elem? said a.queue ≡ some d
@@ -68,8 +81,11 @@ module _ (g : GeometryFields) (log : List Act) (n : ℕ) (said : List (VecDeque 
   all_here : AllSaid g (take n log) (x.act ∷ drop (n + 1) log) said
   all_here = subst (λ (l : List Act). AllSaid g (take n log) l said) x.from_it all
 
-  pub first_here : First d.items (response_at g (take n log) x.act) (queue_responses g x.act.queue (take n log ++ x.act ∷ []) (drop (n + 1) log))
+  first_here : First d.items (response_at g (take n log) x.act) (queue_responses g x.act.queue (take n log ++ x.act ∷ []) (drop (n + 1) log))
   first_here = first_said g (take n log) (drop (n + 1) log) x.act said d all_here (ap (λ (k : ℕ). get_elem? said k) (sym mine) ∙ at_index said q d near there)
+
+  pub some_here : 1 ≤ length d.items
+  some_here = let long : length d.items ≡ length first_here.others + 1 = ap (λ (l : List Reply). length l) first_here.are ∙ omega arith in omega (arith, long)
 
   -- the reply that was taken is the first
   pub reply_here : (r : Reply) (rs : List Reply) → d.items ≡ r ∷ rs → IsReplyTo g x.act r (take n log)

@@ -3,7 +3,10 @@ pub mod Dealt
 pub mod Opened
 pub mod Served
 pub mod Taken
+pub mod Kept
+pub mod Made
 pub mod Stopped
+pub mod Crossing
 pub mod Gathered
 pub mod SameQueues
 pub mod Rested

@@ -1,5 +1,5 @@
 -- The words of zones are taken one after the other.
-use Rattle.std.proofs.Common.{◌≡◌, ℕ, zero, suc, ◌+◌, ◌-◌, ◌<◌, ◌≤◌, List, [], ◌∷◌, ◌++◌, length, None, refl, ap, sym, ◌∙◌, subst, arith, inl, inr, append_assoc}
+use Rattle.std.proofs.Common.{◌≡◌, ℕ, zero, suc, ◌+◌, ◌-◌, ◌<◌, ◌≤◌, List, [], ◌∷◌, ◌++◌, length, refl, ap, sym, ◌∙◌, subst, arith, inl, inr, append_assoc}
 use Rattle.std.specs.List.{range_with_len}
 use Rattle.std.proofs.lemmas.List.FromFn.{length-range_with_len}
 use mathlib.Core.List.{map-append}
@@ -11,8 +11,8 @@ use Rattle.zone_model.specs.Local.{IsRange}
 use Rattle.zone_model.proofs.LocalFacts.{reach_is_range}
 use Rattle.solo_drive.specs.Parts.{AreLent}
 use Rattle.zone_desk.specs.Sights.{in_order, zones_held, zone_words, missed, with_cells}
-use Rattle.zone_desk.specs.Passes.{Pass, knowing, IsAbove, MayTake, HasTakenZone}
-use Rattle.queue_controller.specs.Words.{Before, HasStopped}
+use Rattle.zone_desk.specs.Passes.{DeskId, Pass, knowing, IsAbove, MayTake, HasTakenZone}
+use Rattle.queue_controller.specs.Words.{HoldsNothing, Before, HasStopped}
 
 -- ---- numbers in a row
 
@@ -55,8 +55,14 @@ takes-none p first none =
       above = subst (IsAbove (first + 2)) (sym none) tt;
     }
 
-pub may-take : (g : GeometryFields) (p : Pass) (first zone : ℕ) (q : Pass) → Takes p first zone q → p.sight.journal ≡ None → zone < g.zones → MayTake g q.sight (zone + 2)
-may-take g p first zone q t none lt = record { before_book = ap (λ (x : Pass). x.sight.journal) t.view ∙ none; within = (omega arith, omega arith); rising = λ ne. t.above }
+pub may-take : (desk : DeskId) (p : Pass) (first zone : ℕ) (q : Pass) → Takes p first zone q → HoldsNothing desk p → zone < desk.geometry.zones → MayTake desk.geometry q (zone + 2)
+may-take desk p first zone q t free lt =
+    record {
+      before_book = ap (λ (x : Pass). x.sight.journal) t.view ∙ free.idle.0;
+      within = (omega arith, omega arith);
+      rising = λ ne. t.above;
+      none_open = λ ne. ap (λ (x : Pass). x.opened) t.view ∙ free.none_open;
+    }
 
 pub takes-more : (p q q' : Pass) (first zone : ℕ) → first ≤ zone → Takes p first zone q → HasTakenZone zone q q' → Takes p first (zone + 1) q'
 takes-more p q q' first zone le t taken =

@@ -7,6 +7,7 @@ use Rattle.zone_model.specs.declared.reply.Reply.{Reply}
 use Rattle.zone_model.specs.Sessions.{acts_of}
 use Rattle.session_file.specs.Results.{IsShort}
 use Rattle.zone_desk.specs.Passes.{DeskId, IsIdle}
+use Rattle.queue_controller.specs.Words.{HoldsNothing}
 use Rattle.queue_controller.specs.Replies.{response_of, response_at, queue_responses, Respond}
 use Rattle.queue_controller.specs.declared.job.Prepared.{Prepared}
 use Rattle.queue_controller.specs.declared.job.Job.{Job}
@@ -30,8 +31,7 @@ pub record IsReplyTo (g : GeometryFields) (a : Act) (r : Reply) (acts : List Act
 
 -- Nothing is served yet, and there is room for all.
 pub record Starts (desk : DeskId) (j : Job) : Type 0 where
-  pub desk_is : j.pass.desk ≡ desk
-  pub idle : IsIdle j.pass.sight
+  pub free : HoldsNothing desk j.pass
   pub own : j.pass.sight.own ≡ []
   pub seen : j.pass.sight.seen ≡ []
   pub replies : j.replies.items ≡ []

@@ -1,20 +1,32 @@
 -- What a served command tells.
-use Rattle.std.specs.Prelude.{◌≡◌, ◌≢◌, ◌⊎◌, ℕ, ◌+◌, true, false, None, List, [], ◌∷◌, ◌++◌, length, drop}
+use Rattle.std.specs.Prelude.{◌≡◌, ◌≢◌, ◌⊎◌, ℕ, ◌+◌, ◌<◌, true, false, None, List, [], ◌∷◌, ◌++◌, length, drop}
 use Rattle.zns_types.specs.declared.fields.GeometryFields.{GeometryFields}
 use Rattle.zone_model.specs.declared.act.Act.{Act}
 use Rattle.zone_model.specs.Zones.{zones}
+use Rattle.zone_model.specs.Kept.{KeptActs}
 use Rattle.zone_model.specs.Reach.{reach}
 use Rattle.zone_model.specs.Answers.{answered}
 use Rattle.zone_model.specs.Entries.{posted}
 use Rattle.zone_model.specs.Replies.{reply_bytes}
 use Rattle.zone_model.specs.Sessions.{acts_of}
 use Rattle.drive_book.specs.declared.posted.Posted.{Posted}
+use Rattle.sqe_codec.specs.declared.sqe.Sqe.{Sqe}
+use Rattle.solo_drive.specs.Drives.{HasLengths, act_of}
 use Rattle.solo_drive.specs.declared.applied.Applied.{Applied}
 use Rattle.solo_drive.specs.declared.applied.Applied.TheVariants as applied
 use Rattle.zone_desk.specs.Parts.{wants_room}
-use Rattle.zone_desk.specs.Sights.{zone_words}
-use Rattle.zone_desk.specs.Passes.{IsIdle}
+use Rattle.zone_desk.specs.Sights.{zone_words, with_journal}
+use Rattle.zone_desk.specs.Plays.{IsFresh}
+use Rattle.zone_desk.specs.Passes.{DeskId, Pass, knowing, HasApplied, IsIdle}
 use Rattle.zone_desk.specs.declared.sight.Sight.{Sight}
+use Rattle.queue_controller.specs.Words.{HoldsNothing}
+
+-- The pass holds nothing, and may serve one command more. The host data, and the room for what the command reads, have the
+-- lengths that it asks for.
+pub record MayServe (desk : DeskId) (p : Pass) (sqe : Sqe) (payload : List ℕ) (room : ℕ) : Type 0 where
+  pub free : HoldsNothing desk p
+  pub spare : 0 < p.sight.spare
+  pub lengths : HasLengths desk.geometry (act_of p.sight.queue sqe payload) room
 
 -- The pass has seen an extension of what it had seen, which ends with this act, and the act was answered there. Its
 -- own acts gained this one, and had been those of its queue.
@@ -54,6 +66,12 @@ HeldFew g a v w =
     ⊎ ((w.held_at_commit ≡ words_for (zones g)) × (w.given_back ≡ v.given_back + 1) × (wants_room g w.given_back_log a ≡ true))
 
 -- ---- one attempt
+
+-- The pass took the book, of a journal that it was told is fresh, and the act was served there on the zones that it has.
+pub record ServedOn (p p' : Pass) (a : Act) (out out' : List ℕ) (r : Applied) : Type 0 where
+  pub journal : KeptActs
+  pub fresh : IsFresh p.desk.geometry p.sight journal
+  pub applied : HasApplied (knowing p (with_journal p.sight journal)) p' a out out' r
 
 -- all that was out was given back without a commit, at a journal of these acts
 abbrev pub gave_up : Sight → List Act → Sight

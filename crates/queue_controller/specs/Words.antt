@@ -4,7 +4,13 @@ use Rattle.zns_types.specs.declared.fields.GeometryFields.{GeometryFields}
 use Rattle.zns_types.specs.Geometry.{IsGeometry}
 use Rattle.zone_model.specs.Local.{IsRange}
 use Rattle.zone_desk.specs.Sights.{zones_held, zone_words, missed, with_cells}
-use Rattle.zone_desk.specs.Passes.{Pass, knowing}
+use Rattle.zone_desk.specs.Passes.{DeskId, Pass, knowing, IsIdle}
+
+-- a pass of the desk that holds no word, and has no open command
+pub record HoldsNothing (desk : DeskId) (p : Pass) : Type 0 where
+  pub desk_is : p.desk ≡ desk
+  pub idle : IsIdle p.sight
+  pub none_open : p.opened ≡ None
 
 -- where the numbers make a drive, these are a range of its zones
 abbrev pub AreInRow : GeometryFields → List ℕ → Type 0

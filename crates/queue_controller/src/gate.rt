@@ -3,6 +3,10 @@ pub trait Gate {
     /// Comes before a command's first lock word is taken, with the number of the command in its
     /// queue, from 0.
     fn before(&self, queue: u16, number: u32);
+
+    /// Comes where a command's bytes have moved before the book's lock word is taken, with the same
+    /// number.
+    fn moved(&self, queue: u16, number: u32);
 }
 
 /// Does nothing.
@@ -10,4 +14,6 @@ pub struct FreeGate;
 
 impl Gate for FreeGate {
     fn before(&self, _queue: u16, _number: u32) {}
+
+    fn moved(&self, _queue: u16, _number: u32) {}
 }

@@ -1,11 +1,11 @@
 //! One queue's worker.
-ghost use Rattle.std.specs.Prelude.{◌≡◌, ◌<◌};
-ghost use Rattle.zone_desk.specs.Passes.{IsIdle};
+ghost use Rattle.std.specs.Prelude.{◌<◌};
+ghost use Rattle.queue_controller.specs.Keeping.{Holds, kept_zones, rested};
 ghost use Rattle.queue_controller.specs.Serving.{Serves};
 ghost use Rattle.queue_controller.specs.Jobs.{IsPrepared, IsReplyTo, Starts, Finishes};
 
 use crate::gate::Gate;
-use crate::serving::serve;
+use crate::keeping::{Kept, serve_keeping};
 use std::collections::VecDeque;
 use std::sync::Wait;
 use zns_io::Bytes;
@@ -32,16 +32,16 @@ fn reply_to<R: Wait, G: Gate>(
     rt: &R,
     desk: &Desk,
     pass: &mut QueuePass,
+    kept: &mut Kept,
     prepared: Prepared,
     gate: &G,
 ) -> Reply
-    requires desk { pass.old.desk ≡ desk.now }
-    requires idle { IsIdle pass.old.sight }
+    requires holds { Holds desk.now (kept_zones desk.now.geometry kept.old.reach) pass.old }
     requires spare { 0 < pass.old.sight.spare }
     requires prepared { IsPrepared desk.now.geometry pass.old.sight.queue prepared }
-    ensures desk { pass.new.desk ≡ pass.old.desk }
-    ensures served { Serves pass.old.sight prepared.act
-        (IsReplyTo desk.now.geometry prepared.act result) pass.new.sight }
+    ensures holds { Holds desk.now (kept_zones desk.now.geometry kept.new.reach) pass.new }
+    ensures served { Serves (rested pass.old.sight) prepared.act
+        (IsReplyTo desk.now.geometry prepared.act result) (rested pass.new.sight) }
 {
     let Prepared { act, mut out } = prepared;
     let Act {
@@ -49,7 +49,7 @@ fn reply_to<R: Wait, G: Gate>(
         sqe,
         payload,
     } = act;
-    let posted = serve(rt, desk, pass, sqe, payload, &mut out, gate);
+    let posted = serve_keeping(rt, desk, pass, kept, sqe, payload, &mut out, gate);
     out.truncate(posted.len as usize);
     Reply {
         entries: posted.entries,
@@ -62,8 +62,10 @@ pub(crate) fn work<R: Wait, G: Gate>(rt: &R, desk: &Desk, job: &mut Job, gate: &
     requires { Starts desk.now job.old }
     ensures { Finishes desk.now job.old job.new }
 {
+    let mut kept = Kept::nothing();
     while let Some(prepared) = job.left.pop_front() {
-        let reply = reply_to(rt, desk, &mut job.pass, prepared, gate);
+        let reply = reply_to(rt, desk, &mut job.pass, &mut kept, prepared, gate);
         job.replies.push_reserved(reply);
     }
+    desk.put_back(&mut job.pass);
 }

@@ -5,6 +5,8 @@
 mod closing;
 mod gate;
 mod job;
+mod keeping;
+mod making;
 mod opening;
 mod serving;
 mod session;

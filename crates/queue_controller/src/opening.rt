@@ -10,10 +10,13 @@ ghost use mathlib.Core.Option.{some};
 ghost use lib.ListN.{get_elem?};
 
 use crate::job::{Job, Prepared};
+use crate::making::all_zones;
 use session_file::Session;
+use solo_drive::Solo;
 use sqe_codec::reply_len;
 use std::alloc::Global;
 use std::collections::VecDeque;
+use std::thread::Threads;
 use zns_io::NoMemory;
 use zns_types::Geometry;
 use zone_desk::{Desk, MainPass, PassErr, QueuePass};
@@ -128,14 +131,20 @@ fn jobs_for(
 }
 
 /// Takes all the memory of a session, and serves nothing.
-pub(crate) fn open(alloc: Global, session: Session) -> Result<Shop, NoMemory>
+pub(crate) fn open<R: Threads + Sync>(
+    rt: &R,
+    alloc: Global,
+    session: Session,
+) -> Result<Shop, NoMemory>
     ensures { IfOk result (Opens session) }
 {
     let (geometry, acts) = session.into_parts();
     let room = acts.len();
     let queues = geometry.fields.queues as usize;
     let lists = deal(alloc, &geometry, acts.into_vec())?;
-    let (desk, mut main) = Desk::new(alloc, geometry, room)?;
+    let cells = all_zones(rt, alloc, &geometry)?;
+    let drive = Solo::over(alloc, geometry, cells, room)?;
+    let (desk, mut main) = Desk::over(alloc, drive)?;
     let jobs = jobs_for(alloc, &desk, &mut main, lists)?;
     Ok(Shop {
         desk,

@@ -1,9 +1,12 @@
-ghost use Rattle.std.specs.Prelude.{◌≡◌, ◌<◌, length};
+ghost use Rattle.std.specs.Prelude.{◌≡◌, ◌<◌, length, None};
 ghost use Rattle.solo_drive.specs.Drives.{HasLengths, act_of};
 ghost use Rattle.solo_drive.specs.Parts.{AreLent};
 ghost use Rattle.solo_drive.specs.Reaching.{zones_of};
-ghost use Rattle.zone_desk.specs.Passes.{IsIdle};
-ghost use Rattle.queue_controller.specs.Serving.{Serves, IsPosted, HeldFew, Attempts};
+ghost use Rattle.zone_desk.specs.Sights.{zones_held};
+ghost use Rattle.queue_controller.specs.Words.{HoldsNothing};
+ghost use Rattle.queue_controller.specs.Keeping.{AttemptsKeeping};
+ghost use Rattle.queue_controller.specs.Serving.{MayServe, Serves, IsPosted, HeldFew};
+ghost use Rattle.queue_controller.specs.Serving.{Attempts, ServedOn};
 
 use crate::gate::Gate;
 use crate::words::{BOOK, take_zones};
@@ -13,8 +16,73 @@ use std::sync::Wait;
 use zns_io::Bytes;
 use zone_desk::{Desk, QueuePass};
 
+// Serves a command on the zones that the pass has: where its bytes can move now, it does so, and
+// the book is taken for the commit alone.
+fn serve_taken<R: Wait, G: Gate>(
+    rt: &R,
+    desk: &Desk,
+    pass: &mut QueuePass,
+    sqe: Sqe,
+    payload: Bytes,
+    out: &mut [u8],
+    gate: &G,
+) -> Applied
+    requires desk { pass.old.desk ≡ desk.now }
+    requires no_book { pass.old.sight.journal ≡ None }
+    requires none_open { pass.old.opened ≡ None }
+    requires lent { AreLent desk.now.geometry
+        (act_of pass.old.sight.queue sqe payload) (zones_held pass.old.sight) }
+    requires spare { 0 < pass.old.sight.spare }
+    requires lengths { HasLengths desk.now.geometry
+        (act_of pass.old.sight.queue sqe payload) (length out.old) }
+    ensures { ServedOn pass.old pass.new (act_of pass.old.sight.queue sqe payload)
+        out.old out.new result }
+{
+    if let Some(ready) = desk.ready_act(pass, sqe, &payload, out) {
+        gate.moved(pass.queue(), pass.served());
+        desk.take_word(rt, pass, BOOK);
+        return Applied::Done(desk.settle_act(pass, sqe, payload, ready));
+    }
+    desk.take_word(rt, pass, BOOK);
+    desk.apply_act(pass, sqe, payload, out)
+}
+
+// Serves a command on the zones that the pass has, and keeps them; or gives all back, where another
+// zone has to give way.
+pub(crate) fn serve_here<R: Wait, G: Gate>(
+    rt: &R,
+    desk: &Desk,
+    pass: &mut QueuePass,
+    sqe: Sqe,
+    payload: Bytes,
+    out: &mut [u8],
+    gate: &G,
+) -> Applied
+    requires desk { pass.old.desk ≡ desk.now }
+    requires no_book { pass.old.sight.journal ≡ None }
+    requires none_open { pass.old.opened ≡ None }
+    requires lent { AreLent desk.now.geometry
+        (act_of pass.old.sight.queue sqe payload) (zones_held pass.old.sight) }
+    requires spare { 0 < pass.old.sight.spare }
+    requires lengths { HasLengths desk.now.geometry
+        (act_of pass.old.sight.queue sqe payload) (length out.old) }
+    ensures { AttemptsKeeping desk.now (act_of pass.old.sight.queue sqe payload)
+        out.old out.new pass.old.sight result pass.new }
+{
+    match serve_taken(rt, desk, pass, sqe, payload, out, gate) {
+        Applied::Done(posted) => {
+            desk.give_book(pass);
+            Applied::Done(posted)
+        }
+        Applied::Widen { payload } => {
+            desk.put_back(pass);
+            Applied::Widen { payload }
+        }
+    }
+}
+
 // Takes the words of a reach and the book's, serves the command if it can, and gives all back.
-fn serve_over<R: Wait>(
+pub(crate) fn serve_over<R: Wait, G: Gate>(
     rt: &R,
     desk: &Desk,
     pass: &mut QueuePass,
@@ -22,21 +90,17 @@ fn serve_over<R: Wait>(
     sqe: Sqe,
     payload: Bytes,
     out: &mut [u8],
+    gate: &G,
 ) -> Applied
-    requires desk { pass.old.desk ≡ desk.now }
-    requires idle { IsIdle pass.old.sight }
+    requires may { MayServe desk.now pass.old sqe payload (length out.old) }
     requires lent { AreLent desk.now.geometry
         (act_of pass.old.sight.queue sqe payload) (zones_of desk.now.geometry reach) }
-    requires spare { 0 < pass.old.sight.spare }
-    requires lengths { HasLengths desk.now.geometry
-        (act_of pass.old.sight.queue sqe payload) (length out.old) }
-    ensures desk { pass.new.desk ≡ pass.old.desk }
+    ensures free { HoldsNothing desk.now pass.new }
     ensures tried { Attempts desk.now.geometry (act_of pass.old.sight.queue sqe payload)
         (zones_of desk.now.geometry reach) out.old out.new pass.old.sight result pass.new.sight }
 {
     take_zones(rt, desk, pass, reach);
-    desk.take_word(rt, pass, BOOK);
-    let applied = desk.apply_act(pass, sqe, payload, out);
+    let applied = serve_taken(rt, desk, pass, sqe, payload, out, gate);
     desk.put_back(pass);
     applied
 }
@@ -55,12 +119,8 @@ pub fn serve<R: Wait, G: Gate>(
     out: &mut [u8],
     gate: &G,
 ) -> Posted
-    requires desk { pass.old.desk ≡ desk.now }
-    requires idle { IsIdle pass.old.sight }
-    requires spare { 0 < pass.old.sight.spare }
-    requires lengths { HasLengths desk.now.geometry
-        (act_of pass.old.sight.queue sqe payload) (length out.old) }
-    ensures desk { pass.new.desk ≡ pass.old.desk }
+    requires { MayServe desk.now pass.old sqe payload (length out.old) }
+    ensures free { HoldsNothing desk.now pass.new }
     ensures served { Serves pass.old.sight (act_of pass.old.sight.queue sqe payload)
         (IsPosted desk.now.geometry (act_of pass.old.sight.queue sqe payload)
         result out.old out.new)
@@ -70,10 +130,10 @@ pub fn serve<R: Wait, G: Gate>(
 {
     gate.before(pass.queue(), pass.served());
     let reach = reach_of(desk.geometry(), pass.queue(), &sqe);
-    match serve_over(rt, desk, pass, reach, sqe, payload, out) {
+    match serve_over(rt, desk, pass, reach, sqe, payload, out, gate) {
         Applied::Done(posted) => posted,
         Applied::Widen { payload } => {
-            match serve_over(rt, desk, pass, Reach::All, sqe, payload, out) {
+            match serve_over(rt, desk, pass, Reach::All, sqe, payload, out, gate) {
                 Applied::Done(posted) => posted,
                 Applied::Widen { .. } => unreachable!(),
             }

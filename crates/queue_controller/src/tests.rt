@@ -1,5 +1,5 @@
-ghost use Rattle.std.specs.Prelude.{◌≡◌, ◌+◌, ◌<◌, ◌≤◌};
-ghost use Rattle.zone_desk.specs.Passes.{IsIdle};
+ghost use Rattle.std.specs.Prelude.{◌+◌, ◌<◌, ◌≤◌};
+ghost use Rattle.queue_controller.specs.Words.{HoldsNothing};
 
 use super::*;
 use session_file::{Session, read};
@@ -103,20 +103,73 @@ impl Gate for Meeting {
             _ => {}
         }
     }
+
+    fn moved(&self, _queue: u16, _number: u32) {}
+}
+
+// The same, of workers whose bytes have moved before the book's word is taken.
+#[derive(Drop)]
+struct Crossing {
+    meeting: Meeting,
+}
+
+impl Gate for Crossing {
+    fn before(&self, _queue: u16, _number: u32) {}
+
+    fn moved(&self, queue: u16, number: u32) {
+        match (queue, number) {
+            (1, 1) => self.meeting.meet(&self.meeting.first, &self.meeting.second),
+            (2, 1) => self.meeting.meet(&self.meeting.second, &self.meeting.first),
+            _ => {}
+        }
+    }
+}
+
+impl Meeting {
+    fn new() -> Meeting {
+        Meeting {
+            first: AtomicU32::new(0),
+            second: AtomicU32::new(0),
+            met: AtomicU32::new(0),
+        }
+    }
+}
+
+// Writes one block.
+fn writes(queue: u8, slba: u8) -> Command {
+    Command {
+        queue,
+        opcode: 0x01,
+        slba,
+        dword: 0,
+        bytes: 512,
+    }
 }
 
 #[test]
 fn two_queues_run_side_by_side(rt: HostRuntime) -> Result<(), Fail> {
     let alloc = rt.alloc();
-    let gate = Meeting {
-        first: AtomicU32::new(0),
-        second: AtomicU32::new(0),
-        met: AtomicU32::new(0),
-    };
+    let gate = Meeting::new();
     let asked = session(alloc, &[opens(1, 0), opens(2, 64)])?;
     let outcome = run_session(&rt, alloc, asked, &gate)?;
     assert_eq!(rt; gate.met.load(Ordering::SeqCst), 2);
     assert_eq!(rt; outcome.drive.journal().len(), 2);
+    Ok(())
+}
+
+// Each has its zone's word and not the book's, and is seen by the other.
+#[test]
+fn two_queues_move_bytes_side_by_side(rt: HostRuntime) -> Result<(), Fail> {
+    let alloc = rt.alloc();
+    let gate = Crossing {
+        meeting: Meeting::new(),
+    };
+    let commands = [opens(1, 0), writes(1, 0), opens(2, 64), writes(2, 64)];
+    let outcome = run_session(&rt, alloc, session(alloc, &commands)?, &gate)?;
+    assert_eq!(rt; gate.meeting.met.load(Ordering::SeqCst), 2);
+    assert_eq!(rt; outcome.drive.geometry().fields().zones, 4);
+    assert_eq!(rt; outcome.drive.pointer(0), 1);
+    assert_eq!(rt; outcome.drive.pointer(1), 1);
     Ok(())
 }
 
@@ -147,14 +200,7 @@ fn last_opener_is_refused(rt: HostRuntime) -> Result<(), Fail> {
 #[test]
 fn one_write_is_served(rt: HostRuntime) -> Result<(), Fail> {
     let alloc = rt.alloc();
-    let write = Command {
-        queue: 1,
-        opcode: 0x01,
-        slba: 0,
-        dword: 0,
-        bytes: 512,
-    };
-    let outcome = run_session(&rt, alloc, session(alloc, &[write])?, &FreeGate)?;
+    let outcome = run_session(&rt, alloc, session(alloc, &[writes(1, 0)])?, &FreeGate)?;
     assert_eq!(rt; outcome.drive.pointer(0), 1);
     Ok(())
 }
@@ -169,6 +215,8 @@ impl Gate for Counting {
     fn before(&self, _queue: u16, _number: u32) {
         self.came.fetch_add(1, Ordering::SeqCst);
     }
+
+    fn moved(&self, _queue: u16, _number: u32) {}
 }
 
 // Where memory runs out for a session, none of its commands was served. That shows in runs of this
@@ -215,11 +263,9 @@ enum Came {
 
 // Tries to write a block.
 fn try_write(alloc: Global, desk: &Desk, pass: &mut QueuePass, slba: u64) -> Result<Came, Fail>
-    requires desk { pass.old.desk ≡ desk.now }
-    requires idle { IsIdle pass.old.sight }
+    requires free { HoldsNothing desk.now pass.old }
     requires spare { 0 < pass.old.sight.spare }
-    ensures desk { pass.new.desk ≡ pass.old.desk }
-    ensures idle { IsIdle pass.new.sight }
+    ensures free { HoldsNothing desk.now pass.new }
     ensures spare { pass.old.sight.spare ≤ pass.new.sight.spare + 1 }
 {
     let cmd = Cmd::Write {

@@ -1,9 +1,10 @@
 //! Serves a command without waiting for anybody.
-ghost use Rattle.std.specs.Prelude.{◌≡◌, ◌<◌, length};
-ghost use Rattle.solo_drive.specs.Drives.{HasLengths, act_of};
+ghost use Rattle.std.specs.Prelude.{length};
+ghost use Rattle.solo_drive.specs.Drives.{act_of};
 ghost use Rattle.solo_drive.specs.Parts.{AreLent};
 ghost use Rattle.solo_drive.specs.Reaching.{zones_of};
-ghost use Rattle.zone_desk.specs.Passes.{IsIdle};
+ghost use Rattle.queue_controller.specs.Words.{HoldsNothing};
+ghost use Rattle.queue_controller.specs.Serving.{MayServe};
 ghost use Rattle.queue_controller.specs.Trying.{Tries, TriesAll, AttemptsOnce};
 
 use crate::words::{BOOK, try_zones};
@@ -38,14 +39,10 @@ fn try_over(
     payload: Bytes,
     out: &mut [u8],
 ) -> Attempt
-    requires desk { pass.old.desk ≡ desk.now }
-    requires idle { IsIdle pass.old.sight }
+    requires may { MayServe desk.now pass.old sqe payload (length out.old) }
     requires lent { AreLent desk.now.geometry
         (act_of pass.old.sight.queue sqe payload) (zones_of desk.now.geometry reach) }
-    requires spare { 0 < pass.old.sight.spare }
-    requires lengths { HasLengths desk.now.geometry
-        (act_of pass.old.sight.queue sqe payload) (length out.old) }
-    ensures desk { pass.new.desk ≡ pass.old.desk }
+    ensures free { HoldsNothing desk.now pass.new }
     ensures tried { AttemptsOnce desk.now.geometry (act_of pass.old.sight.queue sqe payload)
         (zones_of desk.now.geometry reach) out.old out.new pass.old.sight result pass.new.sight }
 {
@@ -76,12 +73,8 @@ pub fn try_serve(
     payload: Bytes,
     out: &mut [u8],
 ) -> Tried
-    requires desk { pass.old.desk ≡ desk.now }
-    requires idle { IsIdle pass.old.sight }
-    requires spare { 0 < pass.old.sight.spare }
-    requires lengths { HasLengths desk.now.geometry
-        (act_of pass.old.sight.queue sqe payload) (length out.old) }
-    ensures desk { pass.new.desk ≡ pass.old.desk }
+    requires { MayServe desk.now pass.old sqe payload (length out.old) }
+    ensures free { HoldsNothing desk.now pass.new }
     ensures tried { Tries desk.now.geometry (act_of pass.old.sight.queue sqe payload)
         out.old out.new pass.old.sight result pass.new.sight }
 {
@@ -97,12 +90,8 @@ pub fn try_serve(
 
 // The same over all zones.
 fn try_all(desk: &Desk, pass: &mut QueuePass, sqe: Sqe, payload: Bytes, out: &mut [u8]) -> Tried
-    requires desk { pass.old.desk ≡ desk.now }
-    requires idle { IsIdle pass.old.sight }
-    requires spare { 0 < pass.old.sight.spare }
-    requires lengths { HasLengths desk.now.geometry
-        (act_of pass.old.sight.queue sqe payload) (length out.old) }
-    ensures desk { pass.new.desk ≡ pass.old.desk }
+    requires { MayServe desk.now pass.old sqe payload (length out.old) }
+    ensures free { HoldsNothing desk.now pass.new }
     ensures tried { TriesAll desk.now.geometry (act_of pass.old.sight.queue sqe payload)
         out.old out.new pass.old.sight result pass.new.sight }
 {

@@ -2,8 +2,7 @@
 ghost use Rattle.std.specs.Prelude.{◌≡◌, ◌+◌, ◌-◌, ◌<◌, ◌≤◌};
 ghost use Rattle.std.specs.List.{range_with_len};
 ghost use Rattle.solo_drive.specs.Reaching.{zones_of};
-ghost use Rattle.zone_desk.specs.Passes.{IsIdle};
-ghost use Rattle.queue_controller.specs.Words.{AreInRow, HasZones, TriesZones};
+ghost use Rattle.queue_controller.specs.Words.{HoldsNothing, AreInRow, HasZones, TriesZones};
 
 use solo_drive::Reach;
 use std::sync::Wait;
@@ -35,8 +34,7 @@ fn bounds(g: &Geometry, reach: Reach) -> (u32, u32)
 
 // Takes the words of zones from the first on before the second.
 fn take_between<R: Wait>(rt: &R, desk: &Desk, pass: &mut QueuePass, first: u32, end: u32)
-    requires desk { pass.old.desk ≡ desk.now }
-    requires idle { IsIdle pass.old.sight }
+    requires free { HoldsNothing desk.now pass.old }
     requires order { first ≤ end }
     requires within { end ≤ desk.now.geometry.zones }
     requires few { end ≤ 4096 }
@@ -49,8 +47,7 @@ fn take_between<R: Wait>(rt: &R, desk: &Desk, pass: &mut QueuePass, first: u32, 
 
 /// Waits for the words of a reach's zones, one after the other.
 pub(crate) fn take_zones<R: Wait>(rt: &R, desk: &Desk, pass: &mut QueuePass, reach: Reach)
-    requires desk { pass.old.desk ≡ desk.now }
-    requires idle { IsIdle pass.old.sight }
+    requires free { HoldsNothing desk.now pass.old }
     requires row { AreInRow desk.now.geometry (zones_of desk.now.geometry reach) }
     ensures { HasZones (zones_of desk.now.geometry reach) pass.old pass.new }
 {
@@ -60,8 +57,7 @@ pub(crate) fn take_zones<R: Wait>(rt: &R, desk: &Desk, pass: &mut QueuePass, rea
 
 // Takes the words of zones from the first on before the second, and stops at one that is held.
 fn try_between(desk: &Desk, pass: &mut QueuePass, first: u32, end: u32) -> Option<u32>
-    requires desk { pass.old.desk ≡ desk.now }
-    requires idle { IsIdle pass.old.sight }
+    requires free { HoldsNothing desk.now pass.old }
     requires order { first ≤ end }
     requires within { end ≤ desk.now.geometry.zones }
     requires few { end ≤ 4096 }
@@ -77,8 +73,7 @@ fn try_between(desk: &Desk, pass: &mut QueuePass, first: u32, end: u32) -> Optio
 
 /// Takes the words of a reach's zones, one after the other, and stops at one that is held.
 pub(crate) fn try_zones(desk: &Desk, pass: &mut QueuePass, reach: Reach) -> Option<u32>
-    requires desk { pass.old.desk ≡ desk.now }
-    requires idle { IsIdle pass.old.sight }
+    requires free { HoldsNothing desk.now pass.old }
     requires row { AreInRow desk.now.geometry (zones_of desk.now.geometry reach) }
     ensures { TriesZones (zones_of desk.now.geometry reach) pass.old pass.new result }
 {

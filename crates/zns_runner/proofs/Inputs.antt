@@ -28,9 +28,9 @@ use Rattle.zns_runner.proofs.Sizes.{spelled_size}
 use Rattle.zns_runner.specs.declared.status.Status.TheVariants as status
 use Rattle.zns_runner.specs.declared.task.Task.{Task}
 use Rattle.zns_runner.specs.declared.task.Task.TheVariants as the_task
-use Rattle.zns_runner.specs.Tasks.{MakesSession}
+use Rattle.zns_runner.specs.Tasks.{MakesSession, TakesSession}
 use Rattle.zns_runner.specs.Checking.{HasResult, bytes_after_order}
-use Rattle.zns_runner.specs.Inputs.{input_row, session_rows, checked_rows, host_rows, made_rows, SpellsScript, input_of, Reads}
+use Rattle.zns_runner.specs.Inputs.{input_row, session_rows, checked_rows, host_rows, made_rows, SpellsScript, input_of, Reads, rules_for, IsRefusal}
 use Rattle.zns_runner.specs.Outcomes.{CallsForOf}
 use Rattle.zns_runner.specs.Making.{status_of, IsCause}
 
@@ -96,21 +96,32 @@ unbroken s bytes is e =
     let few : length bytes ≤ 2 ^ 29 = rw e (spelled_size s is) in
     short_input bytes (file_rows bytes) few ∙ spelled_unbroken s bytes is e
 
+-- a task that takes a session reads it,
+pub takes-reads : (t : Task) → TakesSession t → ¬ (MakesSession t)
+takes-reads the_task.One takes = λ none. none
+takes-reads the_task.Run takes = λ none. none
+takes-reads the_task.Check takes = absurd takes
+takes-reads the_task.Show takes = λ none. none
+takes-reads the_task.Host takes = absurd takes
+takes-reads (the_task.Gen number count) takes = absurd takes
+
+-- by the rules of a session
+takes-rules : (t : Task) (input : List ℕ) → TakesSession t → rules_for t input ≡ session_rows input
+takes-rules the_task.One input takes = refl
+takes-rules the_task.Run input takes = refl
+takes-rules the_task.Check input takes = absurd takes
+takes-rules the_task.Show input takes = refl
+takes-rules the_task.Host input takes = absurd takes
+takes-rules (the_task.Gen number count) input takes = absurd takes
+
+session_refusal : (t : Task) (input : List ℕ) (e : FileErr) → TakesSession t → length input ≤ 2 ^ 29 → first_holding (file_rows input) ≡ Some e → IsRefusal t input e
+session_refusal t input e takes few first = ap first_holding (takes-rules t input takes) ∙ (short_input input (file_rows input) few ∙ first)
+
 -- an error in a session is the first rule that is broken
-pub one_cause : (input : List ℕ) (e : FileErr) → length input ≤ 2 ^ 29 → IsFirstOf (file_rows input) e → IsCause the_task.One input (status_of e)
-one_cause input NoMemory few first = tt
-one_cause input (Bad reason offset) few first = short_input input (file_rows input) few ∙ first
-one_cause input (Large which number) few first = short_input input (file_rows input) few ∙ first
-
-pub run_cause : (input : List ℕ) (e : FileErr) → length input ≤ 2 ^ 29 → IsFirstOf (file_rows input) e → IsCause the_task.Run input (status_of e)
-run_cause input NoMemory few first = tt
-run_cause input (Bad reason offset) few first = short_input input (file_rows input) few ∙ first
-run_cause input (Large which number) few first = short_input input (file_rows input) few ∙ first
-
-pub show_cause : (input : List ℕ) (e : FileErr) → length input ≤ 2 ^ 29 → IsFirstOf (file_rows input) e → IsCause the_task.Show input (status_of e)
-show_cause input NoMemory few first = tt
-show_cause input (Bad reason offset) few first = short_input input (file_rows input) few ∙ first
-show_cause input (Large which number) few first = short_input input (file_rows input) few ∙ first
+pub session_cause : (t : Task) (input : List ℕ) (e : FileErr) → TakesSession t → length input ≤ 2 ^ 29 → IsFirstOf (file_rows input) e → IsCause t input (status_of e)
+session_cause t input NoMemory takes few first = tt
+session_cause t input (Bad reason offset) takes few first = session_refusal t input (Bad reason offset) takes few first
+session_cause t input (Large which number) takes few first = session_refusal t input (Large which number) takes few first
 
 -- ---- scripts
 

@@ -3,8 +3,9 @@ use Rattle.std.specs.Prelude.{◌≡◌, ℕ, ◌+◌, ◌<◌, ◌≤◌, ◌^�
 use Rattle.zns_io.specs.declared.bytes.Bytes.{Bytes}
 use Rattle.zns_io.specs.Faults.{Rose}
 use Rattle.zns_io.specs.Told.{Gains}
-use Rattle.zns_io.specs.Reading.{ReadsFrontUpTo}
+use Rattle.zns_io.specs.Reading.{ReadsAll, ReadsFrontUpTo}
 use Rattle.zns_io.specs.Writing.{GainsPrefix}
+use Rattle.zone_model.specs.Sessions.{Recorded, IsSession, spelling}
 use Rattle.session_file.specs.declared.file_err.FileErr.{FileErr}
 use Rattle.session_file.specs.declared.file_err.FileErr.TheVariants.{NoMemory, Bad, Large}
 use Rattle.session_file.specs.declared.file_err.Which.TheVariants as which
@@ -14,6 +15,7 @@ use Rattle.zns_runner.specs.declared.status.Status.{Status}
 use Rattle.zns_runner.specs.declared.status.Status.TheVariants as status
 use Rattle.zns_runner.specs.declared.task.Task.{Task}
 use Rattle.zns_runner.specs.declared.task.Task.TheVariants as the_task
+use Rattle.zns_runner.specs.Tasks.{TakesSession}
 use Rattle.zns_runner.specs.Inputs.{input_of, Reads}
 use Rattle.zns_runner.specs.Outputs.{IsOutputFor}
 use Rattle.zns_runner.specs.Outcomes.{CallsFor, CallsForOf}
@@ -82,6 +84,17 @@ EndsBefore t left now faults faults_now (status.Differs offset) = IsRefused t le
 abbrev pub GivesInput : Task → Option (List ℕ) → Option (List ℕ) → ℕ → ℕ → Result Bytes Status → Type 0
 GivesInput t left now faults faults_now (Ok input) = IsInput t left now input
 GivesInput t left now faults faults_now (Err s) = EndsBefore t left now faults faults_now s
+
+-- The source was read to its end, and spelled a session, which isn't longer than an input may be.
+pub record IsSessionRead (left now : Option (List ℕ)) (s : Recorded) : Type 0 where
+  pub valid : IsSession s
+  pub read : ReadsAll left now (spelling s)
+  pub front : ReadsFrontUpTo left now (2 ^ 29 + 1)
+
+-- the session that a source gives, or how the run of each task that takes one ends without it
+abbrev pub GivesSession : Option (List ℕ) → Option (List ℕ) → ℕ → ℕ → Result Recorded Status → Type 0
+GivesSession left now faults faults_now (Ok session) = IsSessionRead left now session
+GivesSession left now faults faults_now (Err s) = (t : Task) → TakesSession t → EndsBefore t left now faults faults_now s
 
 -- the task read what it takes, and this is what it makes of it
 pub record IsOutputOf (t : Task) (left now : Option (List ℕ)) (output : List ℕ) : Type 0 where

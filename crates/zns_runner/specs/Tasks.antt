@@ -38,6 +38,15 @@ MakesSession the_task.Show = ⊥
 MakesSession the_task.Host = ⊥
 MakesSession (the_task.Gen number count) = ⊤
 
+-- a task takes a session, and nothing after it
+abbrev pub TakesSession : Task → Type 0
+TakesSession the_task.One = ⊤
+TakesSession the_task.Run = ⊤
+TakesSession the_task.Check = ⊥
+TakesSession the_task.Show = ⊤
+TakesSession the_task.Host = ⊥
+TakesSession (the_task.Gen number count) = ⊥
+
 -- the task needs no threads
 abbrev pub IsPlain : Task → Type 0
 IsPlain the_task.One = ⊤

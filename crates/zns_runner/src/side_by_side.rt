@@ -1,37 +1,23 @@
 //! The top of the program, which may start threads and wait.
-ghost use Rattle.std.specs.Prelude.{◌≡◌, ◌↔◌, ◌≤◌, ◌^◌, None, length};
+ghost use Rattle.std.specs.Prelude.{◌≡◌, ◌↔◌, None};
 ghost use Rattle.zns_runner.specs.Tasks.{AskToMake, task_named};
 ghost use Rattle.zns_runner.specs.Outcomes.{moment, Means, IsComplete, GoesByCount};
-ghost use Rattle.zns_runner.specs.Making.{Makes, GivesOutput};
+ghost use Rattle.zns_runner.specs.Making.{GivesOutput};
 
 use crate::running::run;
 use crate::status::Status;
+use crate::streaming::session_from;
 use crate::task::{Task, task_of};
-use crate::top::{end_with, input_for, top_plain};
+use crate::top::{end_with, top_plain};
 use crate::word::Word;
 use queue_controller::Gate;
-use session_file::read;
 use std::alloc::Global;
 use std::sync::Wait;
 use std::thread::Threads;
 use zns_io::{Bytes, Sink, Source};
 
-// The result of the session that an input is, in the order that its queues took side by side.
-fn run_input<R: Threads + Wait + Sync, G: Gate + Sync>(
-    rt: &R,
-    alloc: Global,
-    input: &[u8],
-    gate: &G,
-) -> Result<Bytes, Status>
-    requires { length input.now ≤ 2 ^ 29 }
-    ensures { Makes Task.Run input.now result }
-{
-    let session = read(alloc, input)?;
-    Ok(run(rt, alloc, session, gate)?)
-}
-
 // The result of the session that a source gives, in the order that its queues took side by side.
-fn run_source<R: Threads + Wait + Sync, S: Source, G: Gate + Sync>(
+fn run_from<R: Threads + Wait + Sync, S: Source, G: Gate + Sync>(
     rt: &R,
     alloc: Global,
     source: &mut S,
@@ -40,10 +26,8 @@ fn run_source<R: Threads + Wait + Sync, S: Source, G: Gate + Sync>(
     ensures { GivesOutput Task.Run (S.left source.old) (S.left source.new)
         (S.faults source.old) (S.faults source.new) result }
 {
-    match input_for(alloc, Task::Run, source) {
-        Ok(input) => run_input(rt, alloc, input.as_slice(), gate),
-        Err(status) => Err(status),
-    }
+    let session = session_from(alloc, source)?;
+    Ok(run(rt, alloc, session, gate)?)
 }
 
 /// Does what the words ask for with what the source gives, and writes what it makes to the sink. The
@@ -74,7 +58,7 @@ pub fn top<R: Threads + Wait + Sync, S: Source, K: Sink, G: Gate + Sync>(
     ensures gen_reads_nothing { AskToMake words.now → source.new ≡ source.old }
 {
     match task_of(words) {
-        Some(Task::Run) => end_with(sink, run_source(rt, alloc, source, gate)),
+        Some(Task::Run) => end_with(sink, run_from(rt, alloc, source, gate)),
         _ => top_plain(alloc, words, source, sink),
     }
 }

@@ -1,13 +1,15 @@
-ghost use Rattle.std.specs.Prelude.{◌≡◌, ◌≤◌, ◌^◌, ◌++◌, ℕ, List, Option, length, IfOk};
+ghost use Rattle.std.specs.Prelude.{◌≤◌, ◌^◌, ◌++◌, ◌≡◌, ℕ, List, Option, length, IfOk};
 ghost use Rattle.std.specs.Io.KnownBytes.{Consumes};
-ghost use Rattle.zone_model.specs.Sessions.{IsSession, spelling};
-ghost use Rattle.zns_runner.specs.Making.{Makes, GivesInput, GivesOutput};
+ghost use Rattle.zns_runner.specs.declared.task.Task.{Task};
+ghost use Rattle.zns_runner.specs.Tasks.{TakesSession};
+ghost use Rattle.zns_runner.specs.Making.{GivesInput, GivesSession, GivesOutput};
 
 use crate::serving::serve;
+use crate::showing::show;
 use crate::status::Status;
 use crate::task::Task;
-use crate::top::{GREATEST_INPUT, TOO_LONG, one};
-use session_file::{FeedErr, Given, Session, read_from};
+use crate::top::{GREATEST_INPUT, TOO_LONG};
+use session_file::{FeedErr, Given, Session, read, read_from};
 use std::alloc::Global;
 use zns_io::{Bytes, NoMemory, ReadErr, Source, read_all};
 
@@ -23,8 +25,9 @@ fn joined(front: Bytes, rest: &[u8]) -> Result<Bytes, NoMemory>
 // The input whose front came already: this front, and all that a source still gives.
 fn input_after<S: Source>(alloc: Global, front: Bytes, source: &mut S) -> Result<Bytes, Status>
     requires { length front ≤ 2 ^ 29 }
-    ensures { (first : Option (List ℕ)) → Consumes first (S.left source.old) front
-        → GivesInput Task.One first (S.left source.new)
+    ensures { (t : Task) (first : Option (List ℕ)) → TakesSession t
+        → Consumes first (S.left source.old) front
+        → GivesInput t first (S.left source.new)
         (S.faults source.old) (S.faults source.new) result }
 {
     let limit = GREATEST_INPUT - front.as_slice().len() as u64;
@@ -36,37 +39,44 @@ fn input_after<S: Source>(alloc: Global, front: Bytes, source: &mut S) -> Result
     }
 }
 
-// The result of the session that an input is whose front came already.
-fn one_after<S: Source>(alloc: Global, front: Bytes, source: &mut S) -> Result<Bytes, Status>
+// The session that an input is whose front came already.
+fn session_after<S: Source>(alloc: Global, front: Bytes, source: &mut S) -> Result<Session, Status>
     requires { length front ≤ 2 ^ 29 }
     ensures { (first : Option (List ℕ)) → Consumes first (S.left source.old) front
-        → GivesOutput Task.One first (S.left source.new)
+        → GivesSession first (S.left source.new)
         (S.faults source.old) (S.faults source.new) result }
 {
-    match input_after(alloc, front, source) {
-        Ok(input) => one(alloc, input.as_slice()),
-        Err(status) => Err(status),
+    let input = input_after(alloc, front, source)?;
+    Ok(read(alloc, input.as_slice())?)
+}
+
+/// The session that a source gives. The input isn't held as a whole, unless it's no session.
+pub fn session_from<S: Source>(alloc: Global, source: &mut S) -> Result<Session, Status>
+    ensures { GivesSession (S.left source.old) (S.left source.new)
+        (S.faults source.old) (S.faults source.new) result }
+{
+    match read_from(alloc, source) {
+        Ok(Given::Whole(session)) => Ok(session),
+        Ok(Given::Front(front)) => session_after(alloc, front, source),
+        Err(FeedErr::NoMemory) => Err(Status::NoMemory),
+        Err(FeedErr::Failed) => Err(Status::ReadFault),
     }
 }
 
-// The result of a session.
-fn result_of_session(alloc: Global, session: Session) -> Result<Bytes, Status>
-    requires { IsSession session }
-    ensures { Makes Task.One (spelling session) result }
-{
-    Ok(serve(alloc, session)?)
-}
-
-/// The result of the session that a source gives. The input isn't held as a whole, unless it's no
-/// session.
+/// The result of the session that a source gives.
 pub fn one_from<S: Source>(alloc: Global, source: &mut S) -> Result<Bytes, Status>
     ensures { GivesOutput Task.One (S.left source.old) (S.left source.new)
         (S.faults source.old) (S.faults source.new) result }
 {
-    match read_from(alloc, source) {
-        Ok(Given::Whole(session)) => result_of_session(alloc, session),
-        Ok(Given::Front(front)) => one_after(alloc, front, source),
-        Err(FeedErr::NoMemory) => Err(Status::NoMemory),
-        Err(FeedErr::Failed) => Err(Status::ReadFault),
-    }
+    let session = session_from(alloc, source)?;
+    Ok(serve(alloc, session)?)
+}
+
+/// The text that shows the session that a source gives.
+pub fn text_from<S: Source>(alloc: Global, source: &mut S) -> Result<Bytes, Status>
+    ensures { GivesOutput Task.Show (S.left source.old) (S.left source.new)
+        (S.faults source.old) (S.faults source.new) result }
+{
+    let session = session_from(alloc, source)?;
+    Ok(show(alloc, &session)?)
 }

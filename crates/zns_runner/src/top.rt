@@ -1,18 +1,16 @@
 ghost use Rattle.std.specs.Prelude.{◌≡◌, ◌↔◌, ◌≤◌, ◌^◌, true, [], None, length, is_ok};
-ghost use Rattle.zns_runner.specs.Tasks.{IsPlain, MakesSession, AskToMake, task_named, if_plain};
+ghost use Rattle.zns_runner.specs.Tasks.{IsPlain, TakesSession, MakesSession, AskToMake, task_named, if_plain};
 ghost use Rattle.zns_runner.specs.Outcomes.{moment, Means, IsPlainComplete, GoesByCount};
 ghost use Rattle.zns_runner.specs.Making.{Makes, MakesByCount, GivesInput, GivesOutput, EndsBy};
 
 use crate::checking::check;
 use crate::generating::generate;
-use crate::serving::serve;
-use crate::showing::show;
 use crate::status::Status;
-use crate::streaming::one_from;
+use crate::streaming::{one_from, text_from};
 use crate::summing::summarize;
 use crate::task::{Task, plain_task_of};
 use crate::word::Word;
-use session_file::{Which, read};
+use session_file::Which;
 use std::alloc::Global;
 use zns_io::{Bytes, ReadErr, Sink, Source, read_all, write_all};
 
@@ -27,24 +25,6 @@ pub const TOO_LONG: Status = Status::TooLarge {
     which: Which::Input,
     number: GREATEST_INPUT + 1,
 };
-
-/// The result of the session that an input is.
-pub fn one(alloc: Global, input: &[u8]) -> Result<Bytes, Status>
-    requires { length input.now ≤ 2 ^ 29 }
-    ensures { Makes Task.One input.now result }
-{
-    let session = read(alloc, input)?;
-    Ok(serve(alloc, session)?)
-}
-
-// The text that shows the session that an input is.
-fn text(alloc: Global, input: &[u8]) -> Result<Bytes, Status>
-    requires { length input.now ≤ 2 ^ 29 }
-    ensures { Makes Task.Show input.now result }
-{
-    let session = read(alloc, input)?;
-    Ok(show(alloc, &session)?)
-}
 
 // What a new drive answers to the script that an input is.
 fn scripted(alloc: Global, input: &[u8]) -> Result<Bytes, Status>
@@ -70,18 +50,16 @@ fn made_summary(alloc: Global, number: u64, count: u64) -> Result<Bytes, Status>
     Ok(summarize(alloc, session)?)
 }
 
-// What a task makes of its input.
+// What a task makes of its input, where that is no session alone.
 fn output_for(alloc: Global, task: Task, input: &[u8]) -> Result<Bytes, Status>
-    requires plain { IsPlain task }
+    requires other { ¬ (TakesSession task) }
     requires short { length input.now ≤ 2 ^ 29 }
     ensures makes { Makes task input.now result }
     ensures by_count { MakesByCount task result }
 {
     match task {
-        Task::One => one(alloc, input),
-        Task::Run => unreachable!(),
+        Task::One | Task::Run | Task::Show => unreachable!(),
         Task::Check => check(alloc, input),
-        Task::Show => text(alloc, input),
         Task::Host => scripted(alloc, input),
         Task::Gen { number, count } => made_summary(alloc, number, count),
     }
@@ -113,12 +91,13 @@ fn output_of<S: Source>(alloc: Global, task: Task, source: &mut S) -> Result<Byt
     ensures by_count { MakesByCount task result }
     ensures gen_reads_nothing { MakesSession task → source.new ≡ source.old }
 {
-    if let Task::One = task {
-        return one_from(alloc, source);
-    }
-    match input_for(alloc, task, source) {
-        Ok(input) => output_for(alloc, task, input.as_slice()),
-        Err(status) => Err(status),
+    match task {
+        Task::One => one_from(alloc, source),
+        Task::Show => text_from(alloc, source),
+        task => match input_for(alloc, task, source) {
+            Ok(input) => output_for(alloc, task, input.as_slice()),
+            Err(status) => Err(status),
+        },
     }
 }
 

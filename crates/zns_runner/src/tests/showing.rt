@@ -1,6 +1,7 @@
 use super::sessions::one_write;
 use super::{put, run_on};
 use crate::status::Status;
+use session_file::Reason;
 use std::test::Fail;
 
 // A session with limits, on a drive that has random write areas.
@@ -23,5 +24,19 @@ fn a_session_is_shown(rt: HostRuntime) -> Result<(), Fail> {
     let (status, out) = run_on(alloc, "show", file)?;
     assert_eq!(rt; status, Status::Ok);
     assert_eq!(rt; out.as_slice(), text.as_slice());
+    Ok(())
+}
+
+#[test]
+fn what_follows_a_session_is_not_shown(rt: HostRuntime) -> Result<(), Fail> {
+    let alloc = rt.alloc();
+    let mut file = one_write(alloc)?;
+    file.push(0)?;
+    let trailing = Status::BadFile {
+        reason: Reason::Trailing,
+        offset: 648,
+    };
+    let (status, out) = run_on(alloc, "show", file)?;
+    assert_eq!(rt; (status, out.len()), (trailing, 0));
     Ok(())
 }

@@ -1,5 +1,6 @@
 use Rattle.std.proofs.Common.{◌≡◌, ◌+◌, Option, List, [], ◌∷◌, ◌++◌, length, ap, sym, ◌∙◌, subst, arith, length-append}
 use Rattle.std.specs.Option.{option_to_list}
+use Rattle.queue_controller.specs.Keeping.{rested}
 use Rattle.queue_controller.specs.Jobs.{ArePrepared, IsReplyTo, acts_in}
 use Rattle.queue_controller.specs.declared.job.Prepared.{Prepared}
 use Rattle.queue_controller.proofs.Served.{next_own, next_seen, next_replies}
@@ -24,12 +25,11 @@ loop-prepared-preserved g c =
     let p = c.push_reserved.ensures in
     let P = IsReplyTo geometry x.act r in
     record {
-      desk_is = c.reply_to-reply.ensures.desk ∙ inv.desk_is;
+      holds = c.reply_to-reply.ensures.holds;
       queue = s.queue ∙ inv.queue;
-      idle = s.idle;
-      own = next_own v w x.act P s (acts_in xs) (acts_in c.args.job.now.left.items) (ap (λ (l : List Prepared). v.own ++ acts_in l) (sym items) ∙ inv.own);
-      seen = next_seen v w x.act P s mine;
-      replies = rw p.items (next_replies geometry v w x.act r s c.loop-prepared.job.replies.items mine inv.seen inv.replies);
+      own = next_own (rested v) (rested w) x.act P s (acts_in xs) (acts_in c.args.job.now.left.items) (ap (λ (l : List Prepared). v.own ++ acts_in l) (sym items) ∙ inv.own);
+      seen = next_seen (rested v) (rested w) x.act P s mine;
+      replies = rw p.items (next_replies geometry (rested v) (rested w) x.act r s c.loop-prepared.job.replies.items mine inv.seen inv.replies);
       room = let room = inv.room in let more = ap (λ l. length l) p.items in let n = length-append c.loop-prepared.job.replies.items (r ∷ []) in omega (arith, p.capacity, room, more, n, long);
       spare = omega arith;
       prepared = rw s.queue all.1;

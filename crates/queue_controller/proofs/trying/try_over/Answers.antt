@@ -10,7 +10,7 @@ try_zones-requires-clause-row c = λ valid. lent-range c.args.desk.now.geometry 
 
 pub returns-in-Some-clause-tried : goal.returns-in-Some-clause-tried
 returns-in-Some-clause-tried c = record {
-  stopped = stopped c.args.pass.now c.try_zones.new.pass c.put_back.new.pass (zones_of c.args.desk.now.geometry c.args.reach) c.in-Some.word c.requires.idle c.in-Some.ensures c.put_back.ensures;
+  stopped = stopped c.args.pass.now c.try_zones.new.pass c.put_back.new.pass (zones_of c.args.desk.now.geometry c.args.reach) c.in-Some.word c.requires.may.free.idle c.in-Some.ensures c.put_back.ensures;
   bytes = refl;
   unread = refl;
 }

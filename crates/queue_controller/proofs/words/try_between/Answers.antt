@@ -3,12 +3,12 @@ use Rattle.queue_controller.proofs.Taken.{takes-none, may-take, takes-more, stop
 use Rattle.queue_controller.proofs.words.try_between.Goals as goal
 
 pub loop-zone-init : goal.loop-zone-init
-loop-zone-init c = takes-none c.args.pass.now c.args.first c.requires.idle.1
+loop-zone-init c = takes-none c.args.pass.now c.args.first c.requires.free.idle.1
 
 pub try_word-requires-clause-next : goal.try_word-requires-clause-next
 try_word-requires-clause-next c =
     let within = c.requires.within in
-    may-take c.args.desk.now.geometry c.args.pass.now c.args.first c.loop-zone.zone c.loop-zone.pass c.loop-zone.invariant c.requires.idle.0 (omega (arith, c.loop-zone-test.true, within))
+    may-take c.args.desk.now c.args.pass.now c.args.first c.loop-zone.zone c.loop-zone.pass c.loop-zone.invariant c.requires.free (omega (arith, c.loop-zone-test.true, within))
 
 pub loop-zone-preserved : goal.loop-zone-preserved
 loop-zone-preserved c =

@@ -9,5 +9,5 @@ pub returns-in-Some-Run-clause-complete : goal.returns-in-Some-Run-clause-comple
 returns-in-Some-Run-clause-complete g c = λ t.
     answered c.args.words.now the_task.Run t
     (moment (g.S.Source.left c.args.source.now) (g.K.Sink.taken c.args.sink.now) (g.S.Source.faults c.args.source.now) (g.K.Sink.faults c.args.sink.now))
-    (moment (g.S.Source.left c.run_source.new.source) (g.K.Sink.taken c.end_with.new.sink) (g.S.Source.faults c.run_source.new.source) (g.K.Sink.faults c.end_with.new.sink))
-    c.run_source.result c.end_with.result (λ asked. ap (λ (of : Task). Some of) (sym c.in-Some-Run.field-0-is) ∙ c.in-Some-Run.ensures.complete t asked) c.run_source.ensures c.end_with.ensures
+    (moment (g.S.Source.left c.run_from.new.source) (g.K.Sink.taken c.end_with.new.sink) (g.S.Source.faults c.run_from.new.source) (g.K.Sink.faults c.end_with.new.sink))
+    c.run_from.result c.end_with.result (λ asked. ap (λ (of : Task). Some of) (sym c.in-Some-Run.field-0-is) ∙ c.in-Some-Run.ensures.complete t asked) c.run_from.ensures c.end_with.ensures

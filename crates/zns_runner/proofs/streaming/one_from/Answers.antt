@@ -1,17 +1,27 @@
-use Rattle.std.proofs.Common.{◌^◌, ◌+◌, arith}
-use Rattle.zone_model.specs.Sessions.{spelling}
-use Rattle.session_file.specs.declared.given.Given.TheVariants.{Whole}
-use Rattle.session_file.specs.Streams.{Gives}
+use Rattle.std.proofs.Common.{List, refl, sym, subst}
+use Rattle.zone_model.specs.declared.act.Act.{Act}
+use Rattle.zone_model.specs.Laws.{IsKept}
+use Rattle.zone_model.proofs.KeptHistories.{histories_are_kept}
+use Rattle.zns_runner.proofs.Orders.{merged-own_order}
 use Rattle.zns_runner.specs.declared.task.Task.TheVariants as the_task
-use Rattle.zns_runner.proofs.Sizes.{spelled_size}
-use Rattle.zns_runner.proofs.Made.{gives_output}
-use Rattle.zns_runner.proofs.Joined.{all_front}
+use Rattle.zns_runner.proofs.Made.{session_ends, session_output}
 use Rattle.zns_runner.proofs.streaming.one_from.Goals as goal
 
-pub returns-in-Ok-Whole : goal.returns-in-Ok-Whole
-returns-in-Ok-Whole g c =
+pub returns-in_err-session : goal.returns-in_err-session
+returns-in_err-session g c =
+    session_ends the_task.One (g.S.Source.left c.args.source.now) (g.S.Source.left c.session_from.new.source) (g.S.Source.faults c.args.source.now) (g.S.Source.faults c.session_from.new.source)
+    c.in_err-session.field-0.0 c.from_residual.result tt c.in_err-session.ensures c.from_residual.ensures.1
+
+pub returns : goal.returns
+returns g c =
     let left = g.S.Source.left c.args.source.now in
-    let now = g.S.Source.left c.read_from.new.source in
-    let s = c.in-Ok-Whole.session in
-    let gives : Gives left now (Whole s) = rw c.in-Ok-Whole.field-0-is at c.in-Ok-Whole.ensures.gives in
-    gives_output the_task.One left now (g.S.Source.faults c.args.source.now) (g.S.Source.faults c.read_from.new.source) (spelling s) c.result_of_session.result gives.1 (all_front left now (spelling s) (2 ^ 29 + 1) gives.1 (omega (arith, spelled_size s gives.0))) c.result_of_session.ensures
+    let now = g.S.Source.left c.session_from.new.source in
+    let s = c.in_ok-session.session in
+    let P : List Act → Type 0 = λ acts. IsKept s.geometry acts in
+    session_output the_task.One left now s _ tt c.in_ok-session.ensures (record {
+      session = s;
+      valid = c.in_ok-session.ensures.valid;
+      spelled = refl;
+      result = c.in_ok-serve.ensures;
+      kept = subst P (sym (merged-own_order s.acts)) (histories_are_kept s.geometry c.in_ok-session.ensures.valid.geometry s.acts);
+    })
