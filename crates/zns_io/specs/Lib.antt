@@ -6,3 +6,4 @@ pub mod Calls
 pub mod MemorySources
 pub mod MemorySinks
 pub mod Streams
+pub mod Padding

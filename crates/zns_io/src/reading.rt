@@ -9,7 +9,7 @@ use crate::source::Source;
 use std::alloc::Global;
 
 // How many bytes one read may give.
-const PIECE: usize = 4096;
+const PIECE: usize = 65536;
 
 /// Reads a source to its end, unless more than `limit` bytes come. At most `limit + 1` bytes are
 /// read.

@@ -179,3 +179,17 @@ fn errors_say_what_is_wrong(rt: HostRuntime) -> Result<(), Fail> {
     }
     Ok(())
 }
+
+#[test]
+fn zeros_fill_up_to_a_length(rt: HostRuntime) -> Result<(), Fail> {
+    let alloc = rt.alloc();
+    for (len, zeros) in [(0, 0), (3, 0), (4, 1), (4099, 4096), (9000, 8997)] {
+        let mut bytes = Vec::with_capacity(alloc, 9000)?;
+        bytes.extend_from_slice(&[7; 3])?;
+        pad(&mut bytes, len);
+        let counted = bytes.iter().filter(|byte| **byte == 0).count();
+        assert_eq!(rt; (bytes.len(), counted), (3 + zeros, zeros), "up to {len}");
+        assert!(rt; bytes.starts_with(&[7; 3]), "up to {len}");
+    }
+    Ok(())
+}

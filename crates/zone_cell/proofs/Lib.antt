@@ -1,4 +1,5 @@
 pub mod Blocks
+pub mod Laid
 pub mod Views
 pub mod Cells
 pub mod Pieces

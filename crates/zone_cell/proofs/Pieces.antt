@@ -56,3 +56,18 @@ whole_run len bytes marks from (suc n) within none =
     let size : suc n * len ≡ len + n * len = omega (arith, add-mul 1 n len) in
     let next : drop len (drop (from * len) bytes) ≡ drop ((from + 1) * len) bytes = drop-drop len (from * len) bytes ∙ ap (λ k. drop k bytes) (omega (arith, add-mul from 1 len)) in
     rw (here, rest, size, take_sum len (n * len) (drop (from * len) bytes), next) refl
+
+-- where there is no hole, the last block is marked
+pub last_marked : (marks : List Bool) (from n : ℕ) → from + suc n ≤ length marks → count_by not (take (suc n) (drop from marks)) ≡ 0 → get_or marks (from + n) false ≡ true
+last_marked marks from zero within none =
+    let marked : Bool = get_or marks from false in
+    let first : drop from marks ≡ marked ∷ drop (from + 1) marks = drop_more marks from false (omega arith) in
+    let parts = no_hole marked (count_by not (take zero (drop (from + 1) marks))) (sym (sum_by-cons (λ m. cond (not m) 1 0) marked (take zero (drop (from + 1) marks))) ∙ rw first at none) in
+    let place : from + 0 ≡ from = omega arith in
+    rw place parts.0
+last_marked marks from (suc n) within none =
+    let marked : Bool = get_or marks from false in
+    let first : drop from marks ≡ marked ∷ drop (from + 1) marks = drop_more marks from false (omega arith) in
+    let parts = no_hole marked (count_by not (take (suc n) (drop (from + 1) marks))) (sym (sum_by-cons (λ m. cond (not m) 1 0) marked (take (suc n) (drop (from + 1) marks))) ∙ rw first at none) in
+    let place : from + 1 + n ≡ from + suc n = omega arith in
+    rw (← place) (last_marked marks (from + 1) n (omega arith) parts.1)

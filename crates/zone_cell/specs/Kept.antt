@@ -1,6 +1,7 @@
 -- How the blocks of a cell lie in its bytes: one after another, each with a mark that tells whether it was written.
-use Rattle.std.specs.Prelude.{◌≡◌, ℕ, ◌*◌, ◌^◌, ◌≤◌, Bool, false, if◌then◌else◌, List, length, map, slice_index_or, Option, Some, None}
+use Rattle.std.specs.Prelude.{◌≡◌, ℕ, ◌+◌, ◌*◌, ◌^◌, ◌≤◌, Bool, true, false, if◌then◌else◌, List, ◌++◌, length, take, drop, map, slice_index_or, Option, Some, None}
 use Rattle.std.specs.List.{range_with_len}
+use Rattle.zns_io.specs.Padding.{padded}
 use Rattle.drive_rules.specs.Blocks.{block_at}
 
 -- a block of the bytes, where it is marked
@@ -11,12 +12,21 @@ kept_block len bytes marks b = if slice_index_or marks b false then Some (block_
 abbrev pub kept_blocks : ℕ → List ℕ → List Bool → List (Option (List ℕ))
 kept_blocks len bytes marks = map (kept_block len bytes marks) (range_with_len 0 (length marks))
 
--- What every cell keeps: blocks of 1 to 4,096 bytes, as many as there are marks, and a pointer to one of them or to
--- their end.
-pub record IsSound (block_len pointer byte_count mark_count : ℕ) : Type 0 where
+-- the bytes with data from a place on; zeros lie between where the place is past their end
+abbrev pub laid : ℕ → List ℕ → List ℕ → List ℕ
+laid place payload bytes = take place all ++ payload ++ drop (place + length payload) all
+  where
+    all : List ℕ
+    all = padded (place + length payload) bytes
+
+-- What every cell keeps: blocks of 1 to 4,096 bytes, one for each mark, with room for all of them; those that are marked
+-- lie in the bytes; and a pointer to a block or to their end.
+pub record IsSound (block_len pointer byte_count capacity : ℕ) (marks : List Bool) : Type 0 where
   pub some_len : 1 ≤ block_len
   pub small_len : block_len ≤ 4096
-  pub whole : byte_count ≡ mark_count * block_len
-  pub few_bytes : byte_count ≤ 2 ^ 28
-  pub few_marks : mark_count ≤ 2 ^ 28
-  pub within : pointer ≤ mark_count
+  pub fits : byte_count ≤ length marks * block_len
+  pub room : length marks * block_len ≤ capacity
+  pub few_bytes : length marks * block_len ≤ 2 ^ 28
+  pub few_marks : length marks ≤ 2 ^ 28
+  pub within : pointer ≤ length marks
+  pub lies : (b : ℕ) → slice_index_or marks b false ≡ true → (b + 1) * block_len ≤ byte_count

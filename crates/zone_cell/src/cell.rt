@@ -3,6 +3,7 @@ ghost use Rattle.zns_types.specs.declared.fields.GeometryFields.{GeometryFields}
 ghost use Rattle.zns_types.specs.Geometry.{block_len};
 ghost use Rattle.zone_cell.specs.Cells.{IsOf, IsBlocks, fresh, after_reset, in_state, with_note, with_data, count_of, bytes_at, AreWritten, HoldsBlocks, attributes_of};
 
+use crate::laying::lay;
 use std::alloc::Global;
 use std::marker::Model;
 use zns_io::NoMemory;
@@ -20,13 +21,14 @@ pub struct ZoneCell {
     finished: bool,
     finish_recommended: bool,
     reset_recommended: bool,
-    // The blocks one after another. What lies in a block that isn't marked means nothing.
+    // The blocks one after another, as far as any was ever written, with room for all. What lies in
+    // a block that isn't marked means nothing. Memory that no block lies in stays untouched.
     bytes: Vec<u8>,
     written: Written,
 }
 
 impl Model for ZoneCell {
-    ghost use Rattle.std.specs.Prelude.{length, vec_len};
+    ghost use Rattle.std.specs.Prelude.{vec_len, vec_capacity};
     ghost use Rattle.zone_cell.specs.Cells.{Cell};
     ghost use Rattle.zone_cell.specs.Kept.{kept_blocks, IsSound};
 
@@ -34,11 +36,12 @@ impl Model for ZoneCell {
 
     ghost view = { λ c. record { zone = c.zone; block_len = c.block_len; state = c.state; pointer = c.pointer; window = c.window; finished = c.finished; finish_recommended = c.finish_recommended; reset_recommended = c.reset_recommended; blocks = kept_blocks c.block_len c.bytes.items c.written } };
 
-    ghost invariant = { λ c. IsSound c.block_len c.pointer (vec_len c.bytes) (length c.written) };
+    ghost invariant = { λ c. IsSound c.block_len c.pointer (vec_len c.bytes)
+        (vec_capacity c.bytes) c.written };
 }
 
-// The bytes of all blocks of a zone that can be written.
-fn all_bytes(g: &Geometry) -> usize
+/// The bytes of all blocks of a zone that can be written.
+pub(crate) fn all_bytes(g: &Geometry) -> usize
     ensures exact { result ≡ g.now.fields.capacity * block_len g.now.fields }
     ensures small { result ≤ 2 ^ 28 }
     ensures few_blocks { g.now.fields.capacity ≤ 2 ^ 28 }
@@ -53,7 +56,7 @@ impl ZoneCell {
         ensures fresh { IfOk result (λ c. c ≡ fresh g.now.fields zone) }
         ensures kept { IfOk result (λ c. IsOf g.now.fields c) }
     {
-        let bytes = vec![in alloc; 0; all_bytes(g)]?;
+        let bytes = Vec::with_capacity(alloc, all_bytes(g))?;
         let written = Written::new(alloc, g.fields().capacity as u32)?;
         Ok(ZoneCell {
             zone,
@@ -179,7 +182,7 @@ impl ZoneCell {
     {
         let count = payload.len() / self.block_len as usize;
         let place = self.place(from);
-        self.bytes[place..place + payload.len()].copy_from_slice(payload);
+        lay(&mut self.bytes, place, payload);
         self.written.mark(from as u32, count as u32);
     }
 
@@ -206,10 +209,10 @@ impl ZoneCell {
         requires { from < 2 ^ 32 }
         ensures bytes { IfSome result (λ bytes. bytes.now ≡ bytes_at self.now from count) }
         ensures len { IfSome result (λ bytes. length bytes.now ≡ count * self.now.block_len) }
-        ensures whole { AreWritten self.now from count → IsSome result }
+        ensures whole { 1 ≤ count → AreWritten self.now from count → IsSome result }
     {
         let end = from + u64::from(count);
-        if end > u64::from(self.written.len()) {
+        if count == 0 || end > u64::from(self.written.len()) {
             return None;
         }
         let holes = self.written.holes(from as u32, end as u32);
@@ -219,13 +222,16 @@ impl ZoneCell {
         Some(&self.bytes[self.place(from)..self.place(end)])
     }
 
-    /// All blocks one after another. What lies in a block that wasn't written means nothing.
-    pub fn bytes(&self, g: &Geometry) -> &[u8]
-        requires { IsOf g.now.fields self.now }
-        ensures len { length result.now ≡ g.now.fields.capacity * block_len g.now.fields }
-        ensures blocks { HoldsBlocks self.now result.now }
+    /// Fills `out` with all blocks one after another. What lies in a block that wasn't written means
+    /// nothing.
+    pub fn bytes(&self, g: &Geometry, out: &mut [u8])
+        requires of { IsOf g.now.fields self.now }
+        requires room { length out.old ≡ g.now.fields.capacity * block_len g.now.fields }
+        ensures { HoldsBlocks self.now out.new }
     {
-        &self.bytes[..all_bytes(g)]
+        let (laid, rest) = out.split_at_mut(self.bytes.len());
+        laid.copy_from_slice(&self.bytes);
+        rest.fill(0);
     }
 
     /// Which blocks were written since the last reset.

@@ -4,6 +4,7 @@
 mod acting;
 mod cell;
 mod checks;
+mod laying;
 mod reads;
 mod shown;
 mod states;

@@ -3,6 +3,7 @@ ghost use Rattle.zone_cell.specs.Cells.{IsOf};
 ghost use Rattle.zone_cell.specs.Deeds.{HasBlocks, IsBlocksFor, HasSmallOffset};
 
 use super::*;
+use crate::cell::all_bytes;
 use drive_rules::Deed;
 use std::alloc::Global;
 use std::test::Fail;
@@ -159,7 +160,11 @@ fn take(alloc: Global, cell: &mut ZoneCell, g: &Geometry, step: Step) -> Result<
         Read(from, count, byte) => read(alloc, cell, g, from, count, byte)?,
         Is(state, window) => cell.state() == state && cell.has_window() == window,
         Shows(attributes) => cell.descriptor(g).attributes == attributes,
-        Holds(block, byte) => cell.bytes(g).get(block as usize * 512) == Some(&byte),
+        Holds(block, byte) => {
+            let mut all = vec![in alloc; 0xee; all_bytes(g)]?;
+            cell.bytes(g, &mut all);
+            all.get(block as usize * 512) == Some(&byte)
+        }
     };
     Ok(if same { DONE } else { WRONG })
 }

@@ -1,7 +1,7 @@
 use Rattle.std.proofs.Common.{◌≡◌, ◌+◌, ◌*◌, ◌-◌, ap, sym, arith}
 use Rattle.std.proofs.Math.Nat.{add-mul}
 use Rattle.zone_cell.specs.Cells.{Cell}
-use Rattle.zone_cell.proofs.Views.{marks_of, block_within, block_stands, bytes_before}
+use Rattle.zone_cell.proofs.Views.{marks_of, block_within, block_stands, block_ends}
 use Rattle.zone_cell.proofs.cell.ZoneCell.block.Goals as goal
 
 pub place-requires : goal.place-requires
@@ -16,9 +16,8 @@ place-requires-2 c =
 
 pub slice_bounds-result-end : goal.slice_bounds-result-end
 slice_bounds-result-end c =
-    let lt = block_within c.self.inside c.args.self.now c.args.block c.self.view_is c.if-not-is_written.ensures in
     let len : c.self.inside.block_len ≡ c.args.self.now.block_len = ap (λ (z : Cell). z.block_len) c.self.view_is in
-    let e = rw len at (bytes_before c.self.inside c.args.self.now (c.args.block + 1) c.self.view_is c.self.invariant (omega (arith, marks_of c.self.inside c.args.self.now c.self.view_is))) in
+    let e = rw len at (block_ends c.self.inside c.args.self.now c.args.block c.self.view_is c.self.invariant c.if-not-is_written.ensures) in
     omega (arith, e)
 
 pub returns-clause-bytes : goal.returns-clause-bytes

@@ -6,8 +6,10 @@ pub invariant_of-self : goal.invariant_of-self
 invariant_of-self c = record {
   some_len = c.self.invariant.some_len;
   small_len = c.self.invariant.small_len;
-  whole = c.self.invariant.whole;
+  fits = c.self.invariant.fits;
+  room = c.self.invariant.room;
   few_bytes = c.self.invariant.few_bytes;
   few_marks = c.self.invariant.few_marks;
   within = omega (arith, marks_of c.self.inside c.args.self.now c.self.view_is);
+  lies = c.self.invariant.lies;
 }
