@@ -4,7 +4,7 @@ pub mod Opened
 pub mod Served
 pub mod Taken
 pub mod Kept
-pub mod Made
+pub mod Replied
 pub mod Stopped
 pub mod Crossing
 pub mod Gathered

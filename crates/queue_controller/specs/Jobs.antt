@@ -15,7 +15,8 @@ use Rattle.queue_controller.specs.declared.job.Job.{Job}
 -- an act of this queue, with room for what it asks for
 pub record IsPrepared (g : GeometryFields) (queue : ℕ) (p : Prepared) : Type 0 where
   pub queue_is : p.act.queue ≡ queue
-  pub lengths : HasLengths g p.act (length p.out.items)
+  pub empty : p.out.items ≡ []
+  pub lengths : HasLengths g p.act (vec_capacity p.out)
 
 abbrev pub ArePrepared : GeometryFields → ℕ → List Prepared → Type 0
 ArePrepared g queue [] = Unit {0}

@@ -1,23 +1,41 @@
 -- A pass that keeps the words of its zones from one command to the next.
-use Rattle.std.specs.Prelude.{◌≡◌, ℕ, ◌<◌, None, List, [], Option, Some}
+use Rattle.std.specs.Prelude.{◌≡◌, ◌⊎◌, ℕ, ◌<◌, true, None, List, []}
 use Rattle.zns_types.specs.declared.fields.GeometryFields.{GeometryFields}
 use Rattle.sqe_codec.specs.declared.sqe.Sqe.{Sqe}
 use Rattle.zone_model.specs.declared.act.Act.{Act}
+use Rattle.zone_model.specs.Zones.{zones}
 use Rattle.drive_book.specs.declared.posted.Posted.{Posted}
 use Rattle.solo_drive.specs.Drives.{HasLengths, act_of}
 use Rattle.solo_drive.specs.Reaching.{zones_of}
 use Rattle.solo_drive.specs.declared.reach.Reach.{Reach}
 use Rattle.solo_drive.specs.declared.applied.Applied.{Applied}
 use Rattle.solo_drive.specs.declared.applied.Applied.TheVariants as applied
+use Rattle.zone_desk.specs.Parts.{wants_room}
 use Rattle.zone_desk.specs.Sights.{zones_held, with_cells}
 use Rattle.zone_desk.specs.Passes.{DeskId, Pass}
 use Rattle.zone_desk.specs.declared.sight.Sight.{Sight}
-use Rattle.queue_controller.specs.Serving.{ServedOver, GaveUp}
+use Rattle.queue_controller.specs.Serving.{words_for, HeldOnly, HeldFew, ServedOver, GaveUp}
+use Rattle.queue_controller.specs.declared.keeping.KeptWords.{KeptWords}
+use Rattle.queue_controller.specs.declared.keeping.KeptWords.TheVariants as kept
 
--- the zones of a reach that was kept, or none
-abbrev pub kept_zones : GeometryFields → Option Reach → List ℕ
-kept_zones g None = []
-kept_zones g (Some reach) = zones_of g reach
+-- the zones whose words are kept
+abbrev pub kept_zones : GeometryFields → KeptWords → List ℕ
+kept_zones g kept.Nothing = []
+kept_zones g (kept.Zones reach) = zones_of g reach
+kept_zones g kept.All = zones g
+
+-- these words serve a command of a reach: they are those of its zones, or of all
+abbrev pub Serve : KeptWords → Reach → Type 0
+Serve words reach = (words ≡ kept.Zones reach) ⊎ (words ≡ kept.All)
+
+-- At its last commit the pass held few words. Or it held those of all zones, which it had kept.
+abbrev pub HeldFewOrKept : GeometryFields → KeptWords → Act → Sight → Sight → Type 0
+HeldFewOrKept g words a v w = HeldFew g a v w ⊎ ((words ≡ kept.All) × HeldOnly (words_for (zones g)) v w)
+
+-- The words of all zones are kept: they had been kept before, or another zone had to give way to the act, or it was
+-- refused.
+abbrev pub HaveCause : GeometryFields → KeptWords → Act → Sight → Type 0
+HaveCause g words a w = (words ≡ kept.All) ⊎ (wants_room g w.given_back_log a ≡ true)
 
 -- a pass of the desk that holds the words of just these zones, and has no open command
 pub record Holds (desk : DeskId) (zs : List ℕ) (p : Pass) : Type 0 where
@@ -28,8 +46,8 @@ pub record Holds (desk : DeskId) (zs : List ℕ) (p : Pass) : Type 0 where
 
 -- The pass holds just the zones that it kept, and may serve one command more. The host data, and the room for what the
 -- command reads, have the lengths that it asks for.
-pub record MayGoOn (desk : DeskId) (kept : Option Reach) (p : Pass) (sqe : Sqe) (payload : List ℕ) (room : ℕ) : Type 0 where
-  pub holds : Holds desk (kept_zones desk.geometry kept) p
+pub record MayGoOn (desk : DeskId) (words : KeptWords) (p : Pass) (sqe : Sqe) (payload : List ℕ) (room : ℕ) : Type 0 where
+  pub holds : Holds desk (kept_zones desk.geometry words) p
   pub spare : 0 < p.sight.spare
   pub lengths : HasLengths desk.geometry (act_of p.sight.queue sqe payload) room
 

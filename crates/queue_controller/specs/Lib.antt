@@ -1,7 +1,6 @@
 pub mod Words
 pub mod Serving
 pub mod Keeping
-pub mod Making
 pub mod Trying
 pub mod Replies
 pub mod Jobs

@@ -12,10 +12,11 @@ use Rattle.zone_model.specs.Sessions.{acts_of}
 use Rattle.drive_book.specs.declared.posted.Posted.{Posted}
 use Rattle.sqe_codec.specs.declared.sqe.Sqe.{Sqe}
 use Rattle.solo_drive.specs.Drives.{HasLengths, act_of}
+use Rattle.solo_drive.specs.Parts.{AreLent}
 use Rattle.solo_drive.specs.declared.applied.Applied.{Applied}
 use Rattle.solo_drive.specs.declared.applied.Applied.TheVariants as applied
 use Rattle.zone_desk.specs.Parts.{wants_room}
-use Rattle.zone_desk.specs.Sights.{zone_words, with_journal}
+use Rattle.zone_desk.specs.Sights.{zones_held, zone_words, with_journal}
 use Rattle.zone_desk.specs.Plays.{IsFresh}
 use Rattle.zone_desk.specs.Passes.{DeskId, Pass, knowing, HasApplied, IsIdle}
 use Rattle.zone_desk.specs.declared.sight.Sight.{Sight}
@@ -25,6 +26,16 @@ use Rattle.queue_controller.specs.Words.{HoldsNothing}
 -- lengths that it asks for.
 pub record MayServe (desk : DeskId) (p : Pass) (sqe : Sqe) (payload : List ℕ) (room : ℕ) : Type 0 where
   pub free : HoldsNothing desk p
+  pub spare : 0 < p.sight.spare
+  pub lengths : HasLengths desk.geometry (act_of p.sight.queue sqe payload) room
+
+-- The pass has the zones that the command may read or change, or all, and may serve it there. It has no book and no open
+-- command. The host data, and the room for what the command reads, have the lengths that it asks for.
+pub record MayServeHere (desk : DeskId) (p : Pass) (sqe : Sqe) (payload : List ℕ) (room : ℕ) : Type 0 where
+  pub desk_is : p.desk ≡ desk
+  pub no_book : p.sight.journal ≡ None
+  pub none_open : p.opened ≡ None
+  pub lent : AreLent desk.geometry (act_of p.sight.queue sqe payload) (zones_held p.sight)
   pub spare : 0 < p.sight.spare
   pub lengths : HasLengths desk.geometry (act_of p.sight.queue sqe payload) room
 

@@ -1,7 +1,7 @@
 /// What is called while commands are served. A gate can change no answer.
 pub trait Gate {
-    /// Comes before a command's first lock word is taken, with the number of the command in its
-    /// queue, from 0.
+    /// Comes before a command takes a lock word of its own, with the number of the command in its
+    /// queue, from 0. The queue may hold words that it kept from the command before.
     fn before(&self, queue: u16, number: u32);
 
     /// Comes where a command's bytes have moved before the book's lock word is taken, with the same

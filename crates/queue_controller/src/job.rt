@@ -8,11 +8,11 @@ use crate::gate::Gate;
 use crate::keeping::{Kept, serve_keeping};
 use std::collections::VecDeque;
 use std::sync::Wait;
-use zns_io::Bytes;
+use zns_io::{Bytes, pad};
 use zone_desk::{Desk, QueuePass};
 use zone_model::{Act, Reply};
 
-/// An act that is to be served, with room for what it reads.
+/// An act that is to be served, with room for what it reads. The room stays untouched until then.
 #[derive(Drop)]
 pub struct Prepared {
     pub act: Act,
@@ -36,10 +36,10 @@ fn reply_to<R: Wait, G: Gate>(
     prepared: Prepared,
     gate: &G,
 ) -> Reply
-    requires holds { Holds desk.now (kept_zones desk.now.geometry kept.old.reach) pass.old }
+    requires holds { Holds desk.now (kept_zones desk.now.geometry kept.old.words) pass.old }
     requires spare { 0 < pass.old.sight.spare }
     requires prepared { IsPrepared desk.now.geometry pass.old.sight.queue prepared }
-    ensures holds { Holds desk.now (kept_zones desk.now.geometry kept.new.reach) pass.new }
+    ensures holds { Holds desk.now (kept_zones desk.now.geometry kept.new.words) pass.new }
     ensures served { Serves (rested pass.old.sight) prepared.act
         (IsReplyTo desk.now.geometry prepared.act result) (rested pass.new.sight) }
 {
@@ -49,6 +49,8 @@ fn reply_to<R: Wait, G: Gate>(
         sqe,
         payload,
     } = act;
+    let room = out.capacity();
+    pad(&mut out, room);
     let posted = serve_keeping(rt, desk, pass, kept, sqe, payload, &mut out, gate);
     out.truncate(posted.len as usize);
     Reply {

@@ -6,7 +6,6 @@ mod closing;
 mod gate;
 mod job;
 mod keeping;
-mod making;
 mod opening;
 mod serving;
 mod session;

@@ -10,13 +10,10 @@ ghost use mathlib.Core.Option.{some};
 ghost use lib.ListN.{get_elem?};
 
 use crate::job::{Job, Prepared};
-use crate::making::all_zones;
 use session_file::Session;
-use solo_drive::Solo;
 use sqe_codec::reply_len;
 use std::alloc::Global;
 use std::collections::VecDeque;
-use std::thread::Threads;
 use zns_io::NoMemory;
 use zns_types::Geometry;
 use zone_desk::{Desk, MainPass, PassErr, QueuePass};
@@ -40,7 +37,7 @@ fn prepare(alloc: Global, g: &Geometry, act: Act) -> Result<Prepared, NoMemory>
     ensures prepared { IfOk result (IsPrepared g.now.fields act.queue) }
 {
     let len = reply_len(g, act.queue == 0, &act.sqe);
-    let out = vec![in alloc; 0; len as usize]?;
+    let out = Vec::with_capacity(alloc, len as usize)?;
     Ok(Prepared { act, out })
 }
 
@@ -131,20 +128,14 @@ fn jobs_for(
 }
 
 /// Takes all the memory of a session, and serves nothing.
-pub(crate) fn open<R: Threads + Sync>(
-    rt: &R,
-    alloc: Global,
-    session: Session,
-) -> Result<Shop, NoMemory>
+pub(crate) fn open(alloc: Global, session: Session) -> Result<Shop, NoMemory>
     ensures { IfOk result (Opens session) }
 {
     let (geometry, acts) = session.into_parts();
     let room = acts.len();
     let queues = geometry.fields.queues as usize;
     let lists = deal(alloc, &geometry, acts.into_vec())?;
-    let cells = all_zones(rt, alloc, &geometry)?;
-    let drive = Solo::over(alloc, geometry, cells, room)?;
-    let (desk, mut main) = Desk::over(alloc, drive)?;
+    let (desk, mut main) = Desk::new(alloc, geometry, room)?;
     let jobs = jobs_for(alloc, &desk, &mut main, lists)?;
     Ok(Shop {
         desk,

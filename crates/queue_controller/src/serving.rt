@@ -1,12 +1,11 @@
-ghost use Rattle.std.specs.Prelude.{◌≡◌, ◌<◌, length, None};
-ghost use Rattle.solo_drive.specs.Drives.{HasLengths, act_of};
+ghost use Rattle.std.specs.Prelude.{length};
+ghost use Rattle.solo_drive.specs.Drives.{act_of};
 ghost use Rattle.solo_drive.specs.Parts.{AreLent};
 ghost use Rattle.solo_drive.specs.Reaching.{zones_of};
-ghost use Rattle.zone_desk.specs.Sights.{zones_held};
 ghost use Rattle.queue_controller.specs.Words.{HoldsNothing};
 ghost use Rattle.queue_controller.specs.Keeping.{AttemptsKeeping};
 ghost use Rattle.queue_controller.specs.Serving.{MayServe, Serves, IsPosted, HeldFew};
-ghost use Rattle.queue_controller.specs.Serving.{Attempts, ServedOn};
+ghost use Rattle.queue_controller.specs.Serving.{MayServeHere, Attempts, ServedOn};
 
 use crate::gate::Gate;
 use crate::words::{BOOK, take_zones};
@@ -27,14 +26,7 @@ fn serve_taken<R: Wait, G: Gate>(
     out: &mut [u8],
     gate: &G,
 ) -> Applied
-    requires desk { pass.old.desk ≡ desk.now }
-    requires no_book { pass.old.sight.journal ≡ None }
-    requires none_open { pass.old.opened ≡ None }
-    requires lent { AreLent desk.now.geometry
-        (act_of pass.old.sight.queue sqe payload) (zones_held pass.old.sight) }
-    requires spare { 0 < pass.old.sight.spare }
-    requires lengths { HasLengths desk.now.geometry
-        (act_of pass.old.sight.queue sqe payload) (length out.old) }
+    requires { MayServeHere desk.now pass.old sqe payload (length out.old) }
     ensures { ServedOn pass.old pass.new (act_of pass.old.sight.queue sqe payload)
         out.old out.new result }
 {
@@ -58,14 +50,7 @@ pub(crate) fn serve_here<R: Wait, G: Gate>(
     out: &mut [u8],
     gate: &G,
 ) -> Applied
-    requires desk { pass.old.desk ≡ desk.now }
-    requires no_book { pass.old.sight.journal ≡ None }
-    requires none_open { pass.old.opened ≡ None }
-    requires lent { AreLent desk.now.geometry
-        (act_of pass.old.sight.queue sqe payload) (zones_held pass.old.sight) }
-    requires spare { 0 < pass.old.sight.spare }
-    requires lengths { HasLengths desk.now.geometry
-        (act_of pass.old.sight.queue sqe payload) (length out.old) }
+    requires { MayServeHere desk.now pass.old sqe payload (length out.old) }
     ensures { AttemptsKeeping desk.now (act_of pass.old.sight.queue sqe payload)
         out.old out.new pass.old.sight result pass.new }
 {

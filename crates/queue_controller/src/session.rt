@@ -47,7 +47,7 @@ pub fn run_session<R: Threads + Wait + Sync, G: Gate + Sync>(
     ensures { IfOk result (Runs session) }
 {
     let asked = Snapshot::of(&session);
-    let mut shop = open(rt, alloc, session)?;
+    let mut shop = open(alloc, session)?;
     work_all(rt, &shop.desk, shop.jobs.as_mut_slice(), gate);
     Ok(finish(shop, asked))
 }

@@ -82,20 +82,6 @@ impl Solo {
         ensures { IfOk result (λ s. s ≡ record { geometry = g.fields; acts = []; spare = room }) }
     {
         let cells = fresh_cells(alloc, &g)?;
-        Solo::over(alloc, g, cells, room)
-    }
-
-    /// The drive that `new` gives, of cells that were made before.
-    pub fn over(
-        alloc: Global,
-        g: Geometry,
-        cells: Vec<ZoneCell>,
-        room: u32,
-    ) -> Result<Solo, NoMemory>
-        requires room { room ≤ 262144 }
-        requires fresh { cells.items ≡ map (fresh g.fields) (zones g.fields) }
-        ensures { IfOk result (λ s. s ≡ record { geometry = g.fields; acts = []; spare = room }) }
-    {
         let book = Book::new(alloc, &g, room)?;
         Ok(Solo {
             geometry: g,

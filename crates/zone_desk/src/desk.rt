@@ -1,5 +1,5 @@
 ghost use Rattle.std.specs.Prelude.{◌≡◌, ◌≢◌, ◌+◌, ◌-◌, ◌<◌, ◌≤◌, true, false, length, IfOk, IfErr};
-ghost use Rattle.std.specs.Prelude.{None, []};
+ghost use Rattle.std.specs.Prelude.{None};
 ghost use Rattle.solo_drive.specs.Drives.{HasLengths, act_of};
 ghost use Rattle.solo_drive.specs.Parts.{AreLent};
 ghost use Rattle.zone_desk.specs.Sights.{first_sight, queue_sight, note_sight, made, given};
@@ -67,37 +67,25 @@ impl Desk {
         ensures sight { IfOk result
             (λ d. d.1.sight ≡ first_sight record { fields = g.fields; room = room }) }
     {
-        let drive = Solo::new(alloc, g, room)?;
-        Desk::over(alloc, drive)
-    }
-
-    /// The desk that `new` gives, of a drive that was made before.
-    pub fn over(alloc: Global, drive: Solo) -> Result<(Desk, MainPass), NoMemory>
-        requires room { drive.spare ≤ 262144 }
-        requires fresh { drive.acts ≡ [] }
-        ensures desk { IfOk result (λ d. d.0.geometry ≡ drive.geometry) }
-        ensures main { IfOk result (λ d. d.1.desk ≡ d.0) }
-        ensures sight { IfOk result
-            (λ d. d.1.sight ≡ first_sight record { fields = drive.geometry; room = drive.spare }) }
-    {
-        let room = drive.spare();
+        let zones = g.fields.zones as usize;
+        let shelf = Vec::with_capacity(alloc, zones)?;
+        let given = Vec::from_elem(alloc, false, g.fields.queues as usize)?;
+        let waiting = no_one_waits(alloc, zones + 2)?;
+        let words = Vec::from_elem(alloc, 0u64, zones + 2)?;
         let Parts {
             cells,
             book,
-            geometry,
-        } = drive.into_parts();
-        let fields = geometry.fields;
-        let zones = fields.zones as usize;
-        let shelf = Vec::with_capacity(alloc, zones)?;
-        let given = Vec::from_elem(alloc, false, fields.queues as usize)?;
-        let waiting = no_one_waits(alloc, zones + 2)?;
-        let words = Vec::from_elem(alloc, 0u64, zones + 2)?;
+            geometry: _,
+        } = Solo::new(alloc, g, room)?.into_parts();
         let slots = places(alloc, book, cells)?;
-        let plan = Plan { fields, room };
+        let plan = Plan {
+            fields: g.fields,
+            room,
+        };
         match Table::new(alloc, words.as_slice(), slots, &plan) {
             Ok((table, seat)) => Ok((
                 Desk {
-                    geometry,
+                    geometry: g,
                     table,
                     shelf,
                     waiting,

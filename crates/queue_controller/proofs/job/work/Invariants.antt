@@ -7,7 +7,7 @@ use Rattle.queue_controller.proofs.job.work.Given as goal
 
 abbrev pub invariant-loop-prepared : goal.invariant-loop-prepared
 invariant-loop-prepared g l = record {
-  holds : Holds l.desk (kept_zones l.desk.geometry l.kept.reach) l.job.pass;
+  holds : Holds l.desk (kept_zones l.desk.geometry l.kept.words) l.job.pass;
   queue : l.job.pass.sight.queue ≡ l.initial.job.pass.sight.queue;
   own : l.job.pass.sight.own ++ acts_in l.job.left.items ≡ acts_in l.initial.job.left.items;
   seen : acts_of l.job.pass.sight.queue l.job.pass.sight.seen ≡ l.job.pass.sight.own;
