@@ -14,6 +14,7 @@ pub mod OrderPlaces
 pub mod OrderCounts
 pub mod OrderFronts
 pub mod OrderSteps
+pub mod OrderShifts
 pub mod Spelled
 pub mod Sizes
 pub mod Streams

@@ -1,7 +1,8 @@
 -- Tables of rules that are put together, or that give other answers.
 use Rattle.std.proofs.Common.{◌≡◌, Bool, true, false, cond, List, [], ◌∷◌, ◌++◌, map, Some, None, refl, ap}
+use Rattle.std.proofs.lemmas.Option.{same_Some}
 use Rattle.zns_types.specs.declared.field.GeomErr.{GeomErr}
-use Rattle.zns_types.specs.Rows.{Row, first_holding}
+use Rattle.zns_types.specs.Rows.{Row, when, first_holding}
 use Rattle.session_file.specs.FileRules.{on_header, in_header}
 
 -- where none of the rules of two tables is broken, none of either is
@@ -13,14 +14,21 @@ first_holding-parts {A} (r ∷ rs) more e = go r.holds e (first_holding-parts rs
     go true e k = absurd cc
     go false e k = k e
 
+-- where the rules give other answers, the first that is broken is still the same
+pub first_holding-answers : {A B : Type 0} (f : A → B) (rs : List (Row A)) (a : A) → first_holding rs ≡ Some a → first_holding (map (λ (r : Row A). when r.holds (f r.answer)) rs) ≡ Some (f a)
+first_holding-answers f [] a h = absurd cc
+first_holding-answers {A} {B} f (r ∷ rs) a h = go r.holds h (first_holding-answers f rs a)
+  where
+    others : List (Row B)
+    others = map (λ (x : Row A). when x.holds (f x.answer)) rs
+
+    go : (b : Bool) → cond b (Some r.answer) (first_holding rs) ≡ Some a → (first_holding rs ≡ Some a → first_holding others ≡ Some (f a)) → cond b (Some (f r.answer)) (first_holding others) ≡ Some (f a)
+    go true h k = ap (λ (x : A). Some (f x)) (same_Some r.answer a h)
+    go false h k = k h
+
 -- a rule on drives that is broken is broken in the header
 pub on_header-some : (rs : List (Row GeomErr)) (e : GeomErr) → first_holding rs ≡ Some e → first_holding (map on_header rs) ≡ Some (in_header e)
-on_header-some [] e h = absurd cc
-on_header-some (r ∷ rs) e h = go r.holds h (on_header-some rs e)
-  where
-    go : (b : Bool) → cond b (Some r.answer) (first_holding rs) ≡ Some e → (first_holding rs ≡ Some e → first_holding (map on_header rs) ≡ Some (in_header e)) → cond b (Some (in_header r.answer)) (first_holding (map on_header rs)) ≡ Some (in_header e)
-    go true h k = let same : r.answer ≡ e = cc in ap (λ (x : GeomErr). Some (in_header x)) same
-    go false h k = k h
+on_header-some rs e h = first_holding-answers in_header rs e h
 
 -- and one that isn't, isn't
 pub on_header-none : (rs : List (Row GeomErr)) → first_holding rs ≡ None → first_holding (map on_header rs) ≡ None

@@ -1,5 +1,5 @@
 -- What is read of a source, piece by piece.
-use Rattle.std.proofs.Common.{◌≡◌, ℕ, ◌+◌, ◌^◌, ◌<◌, ◌≤◌, List, [], ◌∷◌, ◌++◌, length, drop, Option, Some, None, refl, sym, ap, subst, ◌∙◌, arith}
+use Rattle.std.proofs.Common.{◌≡◌, ℕ, ◌+◌, ◌*◌, ◌^◌, ◌<◌, ◌≤◌, List, [], ◌∷◌, ◌++◌, length, drop, Option, Some, None, refl, sym, ap, subst, ◌∙◌, arith}
 use Rattle.std.proofs.lemmas.List.{append_assoc, append-nil, flat_map_more, length-append}
 use Rattle.std.specs.Prelude.{All, slice_index, Result, Ok, Err, IfOk, OnErr}
 use Rattle.std.specs.List.{flat_map}
@@ -11,14 +11,15 @@ use Rattle.zns_io.specs.Reading.{ReadsAll, ReadsFrontUpTo}
 use Rattle.zns_io.proofs.ReadLemmas.{ReadsFront-consumed}
 use Rattle.zone_model.specs.declared.act.Act.{Act}
 use Rattle.zone_model.specs.Places.{command_of}
-use Rattle.zone_model.specs.Sessions.{Recorded, IsAct, sum_of, header_bytes, record_bytes, sent_bytes, spelling}
+use Rattle.zone_model.specs.Sessions.{Recorded, IsSession, IsAct, sum_of, header_bytes, record_bytes, sent_bytes, spelling}
 use Rattle.session_file.specs.declared.records.Progress.{Progress}
 use Rattle.session_file.specs.declared.feed_err.FeedErr.{FeedErr}
-use Rattle.session_file.specs.declared.given.Given.{Given}
-use Rattle.session_file.specs.declared.given.Given.TheVariants.{Whole, Front}
+use Rattle.session_file.specs.declared.given.Begun.{Begun}
+use Rattle.session_file.specs.declared.given.First.{First}
+use Rattle.session_file.specs.declared.given.First.TheVariants.{Session, Other}
 use Rattle.session_file.specs.Places.{geometry_in, count_in, length_at, act_at, next_at}
 use Rattle.session_file.specs.FileRules.{record_rows, header_rows}
-use Rattle.session_file.specs.Streams.{GoesOn, StopsWithin, IsNext, Gives, GivesAfter}
+use Rattle.session_file.specs.Streams.{GoesOn, StopsWithin, IsNext, BeginsWith, Begins, BeginsAfter}
 use Rattle.session_file.proofs.Fronts.{header_front}
 use Rattle.session_file.proofs.RecordPlaces.{record_bytes-act_at}
 use Rattle.session_file.proofs.RecordRows.{Passes, passes-record}
@@ -104,27 +105,29 @@ stops_here left held short = record { after = held; goes_on = goes_on-same left 
 
 -- ---- what a source gave
 
--- two steps behind a front that was taken
-both : (left mid now : Option (List ℕ)) (front first held after : List ℕ) (acts : List Act) → GoesOn left mid first (flat_map record_bytes acts ++ held) → GoesOn mid now held after → GoesOn left now (front ++ first) (front ++ (flat_map record_bytes acts ++ after))
-both left mid now front first held after acts one two =
-    goes_on-behind left now front first (flat_map record_bytes acts ++ after)
-    (goes_on-then left mid now first (flat_map record_bytes acts ++ held) _ one (goes_on-behind mid now (flat_map record_bytes acts) held after two))
-
-pub whole_session : (left mid now : Option (List ℕ)) (first held after : List ℕ) (s : Recorded) (n : ℕ) → GoesOn left mid first (flat_map record_bytes s.acts ++ held) → GoesOn mid now held after → after ≡ [] → length s.acts ≡ n
-    → (source : Option (List ℕ)) → Consumes source left (header_bytes s.geometry n ++ first) → Consumes source now (spelling s)
+-- all records, and what came after them
+pub session_so_far : (left now : Option (List ℕ)) (first after : List ℕ) (s : Recorded) (n : ℕ) → GoesOn left now first (flat_map record_bytes s.acts ++ after) → length s.acts ≡ n
+    → (source : Option (List ℕ)) → Consumes source left (header_bytes s.geometry n ++ first) → Consumes source now (spelling s ++ after)
 unfolding spelling
-whole_session left mid now first held after s n one two none count = λ source came.
+session_so_far left now first after s n one count = λ source came.
     let all : List ℕ = flat_map record_bytes s.acts in
-    let is : header_bytes s.geometry n ++ (all ++ after) ≡ header_bytes s.geometry (length s.acts) ++ all =
-    ap (λ (b : List ℕ). header_bytes s.geometry n ++ (all ++ b)) none ∙ ap (λ (b : List ℕ). header_bytes s.geometry n ++ b) (append-nil all) ∙ ap (λ (k : ℕ). header_bytes s.geometry k ++ all) (sym count) in
-    subst (Consumes source now) is (both left mid now (header_bytes s.geometry n) first held after s.acts one two source [] came)
+    let is : header_bytes s.geometry n ++ (all ++ after) ≡ (header_bytes s.geometry (length s.acts) ++ all) ++ after =
+    sym (append_assoc (header_bytes s.geometry n) all after) ∙ ap (λ (k : ℕ). (header_bytes s.geometry k ++ all) ++ after) (sym count) in
+    subst (Consumes source now) is (goes_on-behind left now (header_bytes s.geometry n) first (all ++ after) one source [] came)
 
-pub bytes_so_far : (left mid now : Option (List ℕ)) (first held after bytes : List ℕ) (g : GeometryFields) (n : ℕ) (acts : List Act) → GoesOn left mid first (flat_map record_bytes acts ++ held) → GoesOn mid now held after → bytes ≡ header_bytes g n ++ (flat_map record_bytes acts ++ after)
+-- how long a session is
+pub session_size : (s : Recorded) → All (IsAct s.geometry) s.acts → length (spelling s) ≡ 64 + 72 * length s.acts + sent_bytes s.acts
+unfolding spelling
+session_size s all =
+    length-append (header_bytes s.geometry (length s.acts)) (flat_map record_bytes s.acts) ∙ omega (arith, header_size s.geometry (length s.acts), records_size s.geometry s.acts all)
+
+-- records before one that breaks a rule, and what came after them
+pub bytes_so_far : (left now : Option (List ℕ)) (first after bytes : List ℕ) (g : GeometryFields) (n : ℕ) (acts : List Act) → GoesOn left now first (flat_map record_bytes acts ++ after) → bytes ≡ header_bytes g n ++ (flat_map record_bytes acts ++ after)
     → (source : Option (List ℕ)) → Consumes source left (header_bytes g n ++ first) → Consumes source now bytes
-bytes_so_far left mid now first held after bytes g n acts one two is = λ source came.
-    subst (Consumes source now) (sym is) (both left mid now (header_bytes g n) first held after acts one two source [] came)
+bytes_so_far left now first after bytes g n acts one is = λ source came.
+    subst (Consumes source now) (sym is) (goes_on-behind left now (header_bytes g n) first (flat_map record_bytes acts ++ after) one source [] came)
 
-pub few_so_far : (after bytes : List ℕ) (g : GeometryFields) (n : ℕ) (acts : List Act) → bytes ≡ header_bytes g n ++ (flat_map record_bytes acts ++ after) → All (IsAct g) acts → length acts ≤ 262144 → sent_bytes acts ≤ 2 ^ 27 → length after ≤ 2 ^ 28 + 131072 → length bytes ≤ 2 ^ 29
+pub few_so_far : (after bytes : List ℕ) (g : GeometryFields) (n : ℕ) (acts : List Act) → bytes ≡ header_bytes g n ++ (flat_map record_bytes acts ++ after) → All (IsAct g) acts → length acts ≤ 262144 → sent_bytes acts ≤ 2 ^ 27 → length after ≤ 2 ^ 28 + 65536 → length bytes ≤ 2 ^ 29
 few_so_far after bytes g n acts is all few sent short =
     omega (arith, ap length is, length-append (header_bytes g n) (flat_map record_bytes acts ++ after), header_size g n, length-append (flat_map record_bytes acts) after, records_size g acts all)
 
@@ -140,13 +143,35 @@ header_taken rest held after g n same fits passed fields count skipped =
 pub read_front : (left now : Option (List ℕ)) (bytes : List ℕ) → Consumes left now bytes → length bytes ≤ 2 ^ 29 → ReadsFrontUpTo left now (2 ^ 29)
 read_front left now bytes read few = (length bytes, few, ReadsFront-consumed left now bytes (length bytes) read refl)
 
--- what it gave, with the header
-pub gives_all : (left mid now : Option (List ℕ)) (header held : List ℕ) (r : Result Given FeedErr) → Consumes left mid (header ++ held) → IfOk r (GivesAfter mid now header held) → IfOk r (Gives left now)
-gives_all left mid now header held (Ok (Whole s)) came gave = (gave.session, read_all_of left now (spelling s) (gave.read left came) gave.end)
-gives_all left mid now header held (Ok (Front bytes)) came gave = (gave.read left came, gave.few)
-gives_all left mid now header held (Err e) came gave = gave
+-- what it began with, with the header
+pub begins_all : (left mid now : Option (List ℕ)) (header held : List ℕ) (r : Result First FeedErr) → Consumes left mid (header ++ held) → IfOk r (BeginsAfter mid now header held) → IfOk r (Begins left now)
+begins_all left mid now header held (Ok (Session b)) came gave = record { session = gave.session; long = gave.long; few = gave.few; read = gave.read left came }
+begins_all left mid now header held (Ok (Other bytes)) came gave = (gave.read left came, gave.few)
+begins_all left mid now header held (Err e) came gave = gave
 
-pub stops_all : (left mid now : Option (List ℕ)) (header held : List ℕ) (r : Result Given FeedErr) → Consumes left mid (header ++ held) → length header ≡ 64 → OnErr r (StopsWithin mid now held) → OnErr r (ReadsFrontUpTo left now (2 ^ 29))
+pub stops_all : (left mid now : Option (List ℕ)) (header held : List ℕ) (r : Result First FeedErr) → Consumes left mid (header ++ held) → length header ≡ 64 → OnErr r (StopsWithin mid now held) → OnErr r (ReadsFrontUpTo left now (2 ^ 29))
 stops_all left mid now header held (Ok given) came size stops = stops
 stops_all left mid now header held (Err e) came size stops =
     read_front left now (header ++ stops.after) (stops.goes_on left header came) (omega (arith, stops.few, size, length-append header stops.after))
+
+-- ---- what comes after a session
+
+-- a piece more came after it
+pub began_more : (left mid now : Option (List ℕ)) (b : Begun) (after : List ℕ) → BeginsWith left mid b → GoesOn mid now b.rest after → Consumes left now (spelling b.session ++ after)
+began_more left mid now b after began more = more left (spelling b.session) began.read
+
+-- nothing came after it
+pub ended_there : (left mid now : Option (List ℕ)) (b : Begun) (after : List ℕ) → BeginsWith left mid b → GoesOn mid now b.rest after → after ≡ [] → IsAtEnd now → ReadsAll left now (spelling b.session)
+ended_there left mid now b after began more none end =
+    let bytes : spelling b.session ++ after ≡ spelling b.session = ap (λ (rest : List ℕ). spelling b.session ++ rest) none ∙ append-nil (spelling b.session) in
+    read_all_of left now (spelling b.session) (subst (Consumes left now) bytes (began_more left mid now b after began more)) end
+
+-- how many bytes these are
+pub began_few : (b : Begun) (after : List ℕ) → IsSession b.session → length after ≤ 2 ^ 28 + 131072 → length (spelling b.session ++ after) ≤ 2 ^ 29
+began_few b after is short =
+    omega (arith, length-append (spelling b.session) after, session_size b.session is.acts, is.count, is.sent)
+
+-- how far a source was read then
+pub began_front : (left mid now : Option (List ℕ)) (b : Begun) (after : List ℕ) → BeginsWith left mid b → GoesOn mid now b.rest after → length after ≤ 2 ^ 28 + 131072 → ReadsFrontUpTo left now (2 ^ 29)
+began_front left mid now b after began more short =
+    read_front left now (spelling b.session ++ after) (began_more left mid now b after began more) (began_few b after began.session short)

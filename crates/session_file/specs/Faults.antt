@@ -1,5 +1,5 @@
 -- What an error says of the rules.
-use Rattle.std.specs.Prelude.{◌≡◌, List, Some, None}
+use Rattle.std.specs.Prelude.{◌≡◌, ℕ, ◌+◌, ◌≤◌, List, Some, None}
 use Rattle.zns_types.specs.Rows.{Row, first_holding}
 use Rattle.session_file.specs.declared.file_err.FileErr.{FileErr}
 use Rattle.session_file.specs.declared.file_err.FileErr.TheVariants.{NoMemory, Bad, Large}
@@ -21,3 +21,15 @@ IsFirstOf rows (Large which number) = FirstBroken rows (Large which number)
 -- memory ran out
 abbrev pub OutOfMemory : FileErr → Type 0
 OutOfMemory e = e ≡ NoMemory
+
+-- an error at an offset is at this one at most
+abbrev pub IsWithin : ℕ → FileErr → Type 0
+IsWithin end NoMemory = Unit {0}
+IsWithin end (Bad reason offset) = offset ≤ end
+IsWithin end (Large which number) = Unit {0}
+
+-- an error in bytes, in those that have so many others before them
+abbrev pub later : ℕ → FileErr → FileErr
+later before NoMemory = NoMemory
+later before (Bad reason offset) = Bad reason (before + offset)
+later before (Large which number) = Large which number

@@ -8,6 +8,7 @@ use Rattle.zone_model.specs.Sessions.{is_of, next_of, rest_of}
 use Rattle.session_file.specs.declared.file_err.Reason.TheVariants as reason
 use Rattle.session_file.specs.declared.file_err.FileErr.{FileErr}
 use Rattle.session_file.specs.FileRules.{bad}
+use Rattle.session_file.specs.Faults.{IsFirstOf}
 
 -- the numbers say how many acts each queue has
 abbrev pub AreCounts : List Act → List ℕ → Type 0
@@ -34,3 +35,9 @@ order_front_rows bytes from n =
 -- the front of a result of acts, from an offset on
 unfoldable pub result_rows : List ℕ → ℕ → List Act → List (Row FileErr)
 result_rows bytes from acts = order_front_rows bytes from (length acts) ++ order_rows (length acts) bytes (from + 12) acts
+
+-- The error is that of the first rule that is broken, wherever these bytes stand behind so many others, with more behind
+-- them unless they are too few for the order.
+abbrev pub IsFirstAfter : ℕ → List ℕ → List Act → FileErr → Type 0
+IsFirstAfter before bytes acts e = (front more : List ℕ) → length front ≡ before → (length bytes < 12 + 2 * length acts → more ≡ [])
+    → IsFirstOf (result_rows (front ++ (bytes ++ more)) before acts) e

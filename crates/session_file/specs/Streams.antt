@@ -1,13 +1,16 @@
 -- What is read of a source, piece by piece.
 use Rattle.std.specs.Prelude.{◌≡◌, ℕ, ◌+◌, ◌^◌, ◌≤◌, List, [], ◌++◌, length, Option, Some, None}
-use Rattle.std.specs.Io.KnownBytes.{Consumes, IsAtEnd}
+use Rattle.std.specs.Io.KnownBytes.{Consumes}
 use Rattle.zns_types.specs.declared.fields.GeometryFields.{GeometryFields}
 use Rattle.sqe_codec.specs.Commands.{reply_len}
 use Rattle.zns_io.specs.Reading.{ReadsAll}
 use Rattle.zone_model.specs.Places.{command_of}
-use Rattle.zone_model.specs.Sessions.{Recorded, IsSession, IsAct, record_bytes, spelling}
+use Rattle.zone_model.specs.Sessions.{IsSession, IsAct, record_bytes, spelling}
 use Rattle.session_file.specs.declared.records.Progress.{Progress}
 use Rattle.session_file.specs.declared.streaming.Taken.{Taken}
+use Rattle.session_file.specs.declared.given.Begun.{Begun}
+use Rattle.session_file.specs.declared.given.First.{First}
+use Rattle.session_file.specs.declared.given.First.TheVariants.{Session, Other}
 use Rattle.session_file.specs.declared.given.Given.{Given}
 use Rattle.session_file.specs.declared.given.Given.TheVariants.{Whole, Front}
 
@@ -35,21 +38,34 @@ pub record IsNext (g : GeometryFields) (before : Progress) (t : Taken) : Type 0 
   pub few_sent : t.after.sent ≤ 2 ^ 27
   pub few_asked : t.after.asked ≤ 2 ^ 27
 
--- with a front that was taken before, and what was held, it is a session, and nothing comes after it
-pub record EndsWith (left now : Option (List ℕ)) (front held : List ℕ) (s : Recorded) : Type 0 where
-  pub session : IsSession s
-  pub end : IsAtEnd now
-  pub read : (first : Option (List ℕ)) → Consumes first left (front ++ held) → Consumes first now (spelling s)
+-- With a front that was taken before, and what was held, these bytes were read: those of a session, and then the rest.
+pub record HasBegun (left now : Option (List ℕ)) (front held : List ℕ) (b : Begun) : Type 0 where
+  pub session : IsSession b.session
+  pub long : b.len ≡ length (spelling b.session)
+  pub few : length b.rest ≤ 2 ^ 28 + 65536
+  pub read : (first : Option (List ℕ)) → Consumes first left (front ++ held) → Consumes first now (spelling b.session ++ b.rest)
 
 -- with a front that was taken before, and what was held, these bytes were read so far
 pub record HasRead (left now : Option (List ℕ)) (front held bytes : List ℕ) : Type 0 where
   pub few : length bytes ≤ 2 ^ 29
   pub read : (first : Option (List ℕ)) → Consumes first left (front ++ held) → Consumes first now bytes
 
--- what a source gave after a front that was taken
-abbrev pub GivesAfter : Option (List ℕ) → Option (List ℕ) → List ℕ → List ℕ → Given → Type 0
-GivesAfter left now front held (Whole s) = EndsWith left now front held s
-GivesAfter left now front held (Front bytes) = HasRead left now front held bytes
+-- what a source began with, by a front that was taken
+abbrev pub BeginsAfter : Option (List ℕ) → Option (List ℕ) → List ℕ → List ℕ → First → Type 0
+BeginsAfter left now front held (Session b) = HasBegun left now front held b
+BeginsAfter left now front held (Other bytes) = HasRead left now front held bytes
+
+-- a source began with a session, and then the rest was read
+pub record BeginsWith (left now : Option (List ℕ)) (b : Begun) : Type 0 where
+  pub session : IsSession b.session
+  pub long : b.len ≡ length (spelling b.session)
+  pub few : length b.rest ≤ 2 ^ 28 + 65536
+  pub read : Consumes left now (spelling b.session ++ b.rest)
+
+-- What a source began with: a session; or these bytes so far.
+abbrev pub Begins : Option (List ℕ) → Option (List ℕ) → First → Type 0
+Begins left now (Session b) = BeginsWith left now b
+Begins left now (Other bytes) = Consumes left now bytes × (length bytes ≤ 2 ^ 29)
 
 -- What a source gave: a session, and nothing after it; or these bytes so far.
 abbrev pub Gives : Option (List ℕ) → Option (List ℕ) → Given → Type 0

@@ -8,8 +8,8 @@ use std::alloc::Global;
 use std::marker::Model;
 use zns_io::{NoMemory, Source};
 
-// How many bytes are read at once.
-const PIECE: usize = 65536;
+/// How many bytes are read at once.
+pub const PIECE: usize = 65536;
 
 // The same bytes, whose numbers are known to be bytes.
 fn known(bytes: &[u8]) -> &[u8]
@@ -47,6 +47,13 @@ impl Feed {
         }
     }
 
+    /// These bytes came.
+    pub fn from_vec(bytes: Vec<u8>) -> Feed
+        ensures { result ≡ bytes.items }
+    {
+        Feed { bytes, at: 0 }
+    }
+
     /// The bytes.
     pub fn rest(&self) -> &[u8]
         ensures rest { result.now ≡ self.now }
@@ -77,10 +84,17 @@ impl Feed {
         Ok(())
     }
 
-    /// Reads a piece more, of at most 65,536 bytes, and says whether some came.
-    pub fn more<S: Source>(&mut self, alloc: Global, source: &mut S) -> Result<bool, FeedErr>
+    /// Reads a piece more, of at most 65,536 bytes and at most `most`, and says whether some came.
+    pub fn more<S: Source>(
+        &mut self,
+        alloc: Global,
+        source: &mut S,
+        most: usize,
+    ) -> Result<bool, FeedErr>
+        requires { 0 < most }
         ensures goes_on { GoesOn (S.left source.old) (S.left source.new) self.old self.new }
         ensures few { length self.new ≤ length self.old + 65536 }
+        ensures most { length self.new ≤ length self.old + most }
         ensures some { IfOk result (λ some. some ≡ true → length self.old < length self.new) }
         ensures none { IfOk result (λ some. some ≡ false → self.new ≡ self.old) }
         ensures end { IfOk result (λ some. some ≡ false → IsAtEnd (S.left source.new)) }
@@ -91,8 +105,38 @@ impl Feed {
         self.settle(alloc)?;
         self.bytes.reserve(PIECE)?;
         let mut piece = [0; PIECE];
-        let count = source.read(&mut piece)?;
+        let room = most.min(PIECE);
+        let count = source.read(&mut piece[..room])?;
         self.bytes.extend_from_slice(&piece[..count]).unwrap();
         Ok(count > 0)
+    }
+
+    /// Reads on until so many bytes are held, or the source ends, and says whether so many are.
+    /// No more than `most` are held then.
+    pub fn fill<S: Source>(
+        &mut self,
+        alloc: Global,
+        source: &mut S,
+        least: usize,
+        most: usize,
+    ) -> Result<bool, FeedErr>
+        requires least { least ≤ most }
+        requires held { length self.old ≤ most }
+        ensures goes_on { GoesOn (S.left source.old) (S.left source.new) self.old self.new }
+        ensures most { length self.new ≤ most }
+        ensures full { IfOk result (λ full. full ≡ true → least ≤ length self.new) }
+        ensures short { IfOk result (λ full. full ≡ false → length self.new < least) }
+        ensures end { IfOk result (λ full. full ≡ false → IsAtEnd (S.left source.new)) }
+        ensures fault { IsErrOf result FeedErr.Failed
+            → Rose (S.faults source.old) (S.faults source.new) }
+        ensures never_falls { S.faults source.old ≤ S.faults source.new }
+    {
+        while self.rest().len() < least {
+            let room = most - self.rest().len();
+            if !self.more(alloc, source, room)? {
+                return Ok(false);
+            }
+        }
+        Ok(true)
     }
 }

@@ -19,17 +19,18 @@ mod session;
 mod streaming;
 mod writing;
 
+pub use feed::Feed;
 pub use feed_err::FeedErr;
 pub use file_err::{FileErr, Reason, Which};
-pub use given::Given;
+pub use given::{Begun, First, Given};
 pub use header::{HEADER_LEN, Header, read_header};
 pub use order::Order;
-pub use ordering::read_order;
+pub use ordering::{read_order, read_order_after};
 pub use reading::{read, read_front};
 pub use result_file::ResultFile;
 pub use results::write_result;
 pub use session::Session;
-pub use streaming::read_from;
+pub use streaming::{begin_from, read_from};
 pub use writing::write;
 pub use zone_model::{Act, Acts, Journal, Replies, Reply};
 

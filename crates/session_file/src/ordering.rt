@@ -1,8 +1,8 @@
 ghost use Rattle.std.specs.Prelude.{◌≡◌, ℕ, ◌+◌, ◌*◌, ◌-◌, ◌<◌, ◌≤◌, ◌^◌, ◌↔◌, true, false, List, ◌++◌, take, drop, length, slice_index, slice_set, IsTrue, IfOk, OnOk, IfErr, MatchResult, None, Some, All, count_by, vec_len};
 ghost use Rattle.zone_model.specs.declared.act.Act.{Act};
 ghost use Rattle.zone_model.specs.Sessions.{is_of, IsOrder, order_bytes};
-ghost use Rattle.session_file.specs.Orders.{AreCounts, queues_from, order_rows, order_front_rows, result_rows};
-ghost use Rattle.session_file.specs.Faults.{NoneBroken, FirstBroken, IsFirstOf, OutOfMemory};
+ghost use Rattle.session_file.specs.Orders.{AreCounts, queues_from, order_rows, order_front_rows, result_rows, IsFirstAfter};
+ghost use Rattle.session_file.specs.Faults.{NoneBroken, FirstBroken, IsFirstOf, OutOfMemory, IsWithin, later as later_error};
 
 use crate::fields::{u16_at, u32_at};
 use crate::file_err::{FileErr, Reason, bad};
@@ -56,6 +56,7 @@ fn read_queues(alloc: Global, bytes: &[u8], at: usize, acts: &Acts) -> Result<Ve
         (NoneBroken (order_rows (length acts.now.acts) bytes.now at acts.now.acts)) }
     ensures broken { IfErr result
         (IsFirstOf (order_rows (length acts.now.acts) bytes.now at acts.now.acts)) }
+    ensures error { IfErr result (IsWithin (length bytes.now)) }
 {
     let mut left = count_acts(acts);
     let mut queues = Vec::new(alloc);
@@ -78,6 +79,7 @@ fn check_front(bytes: &[u8], from: usize, acts: u32) -> Result<usize, FileErr>
     ensures within { IfOk result (λ at. at + 2 * acts ≤ length bytes.now) }
     ensures passed { OnOk result (NoneBroken (order_front_rows bytes.now from acts)) }
     ensures broken { IfErr result (FirstBroken (order_front_rows bytes.now from acts)) }
+    ensures error { IfErr result (IsWithin (length bytes.now)) }
 {
     let at = from + FRONT_LEN;
     if bytes.len() < at + 2 * acts as usize {
@@ -109,9 +111,46 @@ pub fn read_order(
         → MatchResult result (λ o. o ≡ order) OutOfMemory }
     ensures passed { OnOk result (NoneBroken (result_rows bytes.now from session.now.acts)) }
     ensures broken { IfErr result (IsFirstOf (result_rows bytes.now from session.now.acts)) }
+    ensures within { IfErr result (IsWithin (length bytes.now)) }
 {
     let acts = session.acts();
     let at = check_front(bytes, from as usize, acts.len())?;
     let queues = read_queues(alloc, bytes, at, acts)?;
     Ok(Order::from_vec(queues))
+}
+
+// An error in bytes, in those that have so many others before them.
+fn later(error: FileErr, before: u64) -> FileErr
+    requires few { before ≤ 2 ^ 32 }
+    requires within { IsWithin (2 ^ 63) error }
+    ensures { result ≡ later_error before error }
+{
+    match error {
+        FileErr::Bad { reason, offset } => FileErr::Bad {
+            reason,
+            offset: before + offset,
+        },
+        error => error,
+    }
+}
+
+/// The order at the front of a result that begins after so many bytes of an input, of which these
+/// come next: as many as an order of the acts has, or all. An error names the first rule that is
+/// broken, with its offset in the input.
+pub fn read_order_after(
+    alloc: Global,
+    bytes: &[u8],
+    before: u64,
+    session: &Session,
+) -> Result<Order, FileErr>
+    requires { before ≤ 2 ^ 32 }
+    ensures order { IfOk result (IsOrder session.now.acts) }
+    ensures spelled { IfOk result (λ order.
+        take (12 + 2 * length order) bytes.now ≡ order_bytes order) }
+    ensures broken { IfErr result (IsFirstAfter before bytes.now session.now.acts) }
+{
+    match read_order(alloc, bytes, 0, session) {
+        Ok(order) => Ok(order),
+        Err(error) => Err(later(error, before)),
+    }
 }

@@ -3,16 +3,16 @@ ghost use Rattle.std.specs.List.{flat_map};
 ghost use Rattle.std.specs.Io.KnownBytes.{IsAtEnd};
 ghost use Rattle.zns_io.specs.Faults.{Rose};
 ghost use Rattle.zns_io.specs.Reading.{ReadsFrontUpTo};
-ghost use Rattle.zone_model.specs.Sessions.{IsAct, HasWidths, header_bytes, record_bytes, sent_bytes, asked_bytes};
-ghost use Rattle.session_file.specs.Streams.{GoesOn, StopsWithin, IsNext, taken_bytes, Gives, GivesAfter};
+ghost use Rattle.zone_model.specs.Sessions.{IsAct, HasWidths, header_bytes, record_bytes, sent_bytes, asked_bytes, spelling};
+ghost use Rattle.session_file.specs.Streams.{GoesOn, StopsWithin, IsNext, taken_bytes, Begins, BeginsAfter, Gives};
 
-use crate::feed::Feed;
+use crate::feed::{Feed, PIECE};
 use crate::feed_err::FeedErr;
-use crate::given::Given;
+use crate::given::{Begun, First, Given};
 use crate::header::{HEADER_LEN, Header, read_header};
-use crate::records::{Progress, check_record, read_act};
+use crate::records::{Progress, RECORD_LEN, check_record, read_act};
 use crate::session::Session;
-use crate::writing::{put_acts, put_header};
+use crate::writing::{put_acts, put_header, write};
 use std::alloc::Global;
 use zns_io::{Bytes, NoMemory, Source};
 use zns_types::Geometry;
@@ -21,6 +21,9 @@ use zone_model::{Act, Acts};
 // No session is longer, so no record is.
 const MOST_HELD: usize = 1 << 28;
 
+// How many bytes are held at most before a header is taken: no more than fit one piece after it.
+const MOST_FIRST: usize = HEADER_LEN + PIECE;
+
 /// A record that was taken: its act, and how much the session moves with it.
 #[derive(Drop)]
 pub struct Taken {
@@ -28,28 +31,12 @@ pub struct Taken {
     pub after: Progress,
 }
 
-// The records that were taken, and whether they are all.
+// The records that were taken, how many bytes of host data they have, and whether they are all.
 #[derive(Drop)]
 struct Records {
     acts: Acts,
+    sent: u64,
     all: bool,
-}
-
-// Reads on until a header came, or the end.
-fn fill_header<S: Source>(alloc: Global, source: &mut S, feed: &mut Feed) -> Result<(), FeedErr>
-    requires { length feed.old ≤ 65600 }
-    ensures goes_on { GoesOn (S.left source.old) (S.left source.new) feed.old feed.new }
-    ensures few { length feed.new ≤ 65600 }
-    ensures fault { IsErrOf result FeedErr.Failed
-        → Rose (S.faults source.old) (S.faults source.new) }
-    ensures never_falls { S.faults source.old ≤ S.faults source.new }
-{
-    while feed.rest().len() < HEADER_LEN {
-        if !feed.more(alloc, source)? {
-            return Ok(());
-        }
-    }
-    Ok(())
 }
 
 // The record that comes next, or none where what comes breaks a rule of records.
@@ -80,7 +67,7 @@ fn take_record<S: Source>(
             feed.skip(after.at);
             return Ok(Some(Taken { act, after }));
         }
-        if !feed.more(alloc, source)? {
+        if !feed.more(alloc, source, PIECE)? {
             return Ok(None);
         }
     }
@@ -102,7 +89,8 @@ fn take_records<S: Source>(
     ensures stops { OnErr result
         (StopsWithin (S.left source.old) (S.left source.new) feed.old) }
     ensures acts { IfOk result (λ r. All (IsAct g.now.fields) r.acts.acts) }
-    ensures sent { IfOk result (λ r. sent_bytes r.acts.acts ≤ 2 ^ 27) }
+    ensures few_sent { IfOk result (λ r. sent_bytes r.acts.acts ≤ 2 ^ 27) }
+    ensures sent { IfOk result (λ r. r.sent ≡ sent_bytes r.acts.acts) }
     ensures asked { IfOk result (λ r. asked_bytes g.now.fields r.acts.acts ≤ 2 ^ 27) }
     ensures most { IfOk result (λ r. length r.acts.acts ≤ commands) }
     ensures all { IfOk result (λ r. r.all ≡ true → length r.acts.acts ≡ commands) }
@@ -123,10 +111,22 @@ fn take_records<S: Source>(
                 acts.push(act);
                 before = after;
             }
-            None => return Ok(Records { acts, all: false }),
+            None => {
+                let sent = before.sent;
+                return Ok(Records {
+                    acts,
+                    sent,
+                    all: false,
+                });
+            }
         }
     }
-    Ok(Records { acts, all: true })
+    let sent = before.sent;
+    Ok(Records {
+        acts,
+        sent,
+        all: true,
+    })
 }
 
 // The bytes that were read, again: those of a header and of acts, and those that came after them.
@@ -156,35 +156,67 @@ fn has_ended<S: Source>(alloc: Global, source: &mut S, feed: &mut Feed) -> Resul
     if !feed.rest().is_empty() {
         return Ok(false);
     }
-    let some = feed.more(alloc, source)?;
+    let some = feed.more(alloc, source, PIECE)?;
     Ok(!some)
 }
 
-// What a source gives whose header was taken.
-fn read_after<S: Source>(
+// What a source begins with whose header was taken.
+fn begin_after<S: Source>(
     alloc: Global,
     source: &mut S,
     feed: Feed,
     header: Header,
-) -> Result<Given, FeedErr>
+) -> Result<First, FeedErr>
     requires held { length feed ≤ 65600 }
     requires few { header.commands ≤ 262144 }
     requires widths { HasWidths header.geometry.fields }
-    ensures gives { IfOk result (GivesAfter (S.left source.old) (S.left source.new)
+    ensures begins { IfOk result (BeginsAfter (S.left source.old) (S.left source.new)
         (header_bytes header.geometry.fields header.commands) feed) }
     ensures stops { OnErr result (StopsWithin (S.left source.old) (S.left source.new) feed) }
     ensures fault { IsErrOf result FeedErr.Failed
         → Rose (S.faults source.old) (S.faults source.new) }
     ensures never_falls { S.faults source.old ≤ S.faults source.new }
 {
-    let mut feed = feed;
-    let records = take_records(alloc, source, &mut feed, &header.geometry, header.commands)?;
-    let ended = has_ended(alloc, source, &mut feed)?;
-    if records.all && ended {
-        return Ok(Given::Whole(Session::new(header.geometry, records.acts)));
+    let mut rest = feed;
+    let records = take_records(alloc, source, &mut rest, &header.geometry, header.commands)?;
+    if records.all {
+        let len = HEADER_LEN as u64 + RECORD_LEN as u64 * u64::from(header.commands) + records.sent;
+        let session = Session::new(header.geometry, records.acts);
+        return Ok(First::Session(Begun { session, len, rest }));
     }
-    let bytes = read_bytes(alloc, &header, &records.acts, feed.rest())?;
-    Ok(Given::Front(bytes))
+    let bytes = read_bytes(alloc, &header, &records.acts, rest.rest())?;
+    Ok(First::Other(bytes))
+}
+
+/// Reads a source to the end of the session that it begins with, and no more than a piece further.
+/// The host data of the acts is kept once; the bytes of the session aren't. Where it begins with no
+/// session, what was read is given back.
+pub fn begin_from<S: Source>(alloc: Global, source: &mut S) -> Result<First, FeedErr>
+    ensures begins { IfOk result (Begins (S.left source.old) (S.left source.new)) }
+    ensures stops { OnErr result
+        (ReadsFrontUpTo (S.left source.old) (S.left source.new) (2 ^ 29)) }
+    ensures fault { IsErrOf result FeedErr.Failed
+        → Rose (S.faults source.old) (S.faults source.new) }
+    ensures never_falls { S.faults source.old ≤ S.faults source.new }
+{
+    let mut feed = Feed::new(alloc);
+    feed.fill(alloc, source, HEADER_LEN, MOST_FIRST)?;
+    match read_header(feed.rest()) {
+        Ok(header) => {
+            feed.skip(HEADER_LEN);
+            begin_after(alloc, source, feed, header)
+        }
+        Err(_) => Ok(First::Other(Bytes::of(alloc, feed.rest())?)),
+    }
+}
+
+// The bytes of a session, and those that came after it.
+fn spelled(alloc: Global, session: &Session, rest: &[u8]) -> Result<Bytes, NoMemory>
+    ensures { IfOk result (λ b. b ≡ spelling session.now ++ rest.now) }
+{
+    let mut file = write(alloc, session)?.into_vec();
+    file.extend_from_slice(rest)?;
+    Ok(Bytes::from_vec(file))
 }
 
 /// Reads a source to the end of a session, and to the end of the source where nothing comes after
@@ -198,13 +230,12 @@ pub fn read_from<S: Source>(alloc: Global, source: &mut S) -> Result<Given, Feed
         → Rose (S.faults source.old) (S.faults source.new) }
     ensures never_falls { S.faults source.old ≤ S.faults source.new }
 {
-    let mut feed = Feed::new(alloc);
-    fill_header(alloc, source, &mut feed)?;
-    match read_header(feed.rest()) {
-        Ok(header) => {
-            feed.skip(HEADER_LEN);
-            read_after(alloc, source, feed, header)
-        }
-        Err(_) => Ok(Given::Front(Bytes::of(alloc, feed.rest())?)),
+    let (session, mut rest) = match begin_from(alloc, source)? {
+        First::Session(begun) => (begun.session, begun.rest),
+        First::Other(bytes) => return Ok(Given::Front(bytes)),
+    };
+    if has_ended(alloc, source, &mut rest)? {
+        return Ok(Given::Whole(session));
     }
+    Ok(Given::Front(spelled(alloc, &session, rest.rest())?))
 }

@@ -4,7 +4,7 @@ use cqe_codec::Cqe;
 use sqe_codec::Sqe;
 use std::alloc::Global;
 use std::test::Fail;
-use zns_io::Bytes;
+use zns_io::{Bytes, SureSource};
 
 // Four zones of 64 blocks, 48 of which can be written, and no commands.
 const HEADER: [u8; 64] = *b"ZNSQ0001\
@@ -105,6 +105,56 @@ fn orders_are_read(rt: HostRuntime) -> Result<(), Fail> {
             answer,
             "at {place} and {len}"
         );
+    }
+    Ok(())
+}
+
+#[test]
+fn a_session_and_then_an_order_come_from_a_source(rt: HostRuntime) -> Result<(), Fail> {
+    let alloc = rt.alloc();
+    let mut file = one_write(alloc)?;
+    file.truncate(648);
+    file.extend_from_slice(b"ZNSR0001\x01\x00\x00\x00\x01\x00")?;
+    let mut source = SureSource::new(Bytes::from_vec(file), 650);
+    let Begun {
+        session,
+        len,
+        mut rest,
+    } = match begin_from(alloc, &mut source) {
+        Ok(First::Session(begun)) => begun,
+        _ => return Err(Fail::from("no session came")),
+    };
+    assert_eq!(rt; len, 648);
+    assert_eq!(rt; rest.rest().len(), 2);
+    let short = read_order_after(alloc, rest.rest(), 648, &session).err();
+    assert_eq!(rt; short, bad(Reason::Short, 650));
+    if rest.rest().len() <= 20 {
+        assert_eq!(rt; rest.fill(alloc, &mut source, 14, 20), Ok(true));
+    }
+    let order = read_order_after(alloc, rest.rest(), 648, &session)?;
+    assert_eq!(rt; order.len(), 1);
+    let mut other = Vec::from_slice(alloc, rest.rest())?;
+    if let Some(queue) = other.get_mut(12) {
+        *queue = 0;
+    }
+    let other = read_order_after(alloc, Feed::from_vec(other).rest(), 648, &session).err();
+    assert_eq!(rt; other, bad(Reason::ResultOrder, 660));
+    rest.skip(rest.rest().len());
+    assert_eq!(rt; rest.more(alloc, &mut source, 20), Ok(false));
+    assert!(rt; rest.rest().is_empty());
+    Ok(())
+}
+
+#[test]
+fn a_front_of_no_session_is_given_back(rt: HostRuntime) -> Result<(), Fail> {
+    let alloc = rt.alloc();
+    for len in [63, 100] {
+        let mut file = one_write(alloc)?;
+        file.truncate(len);
+        match begin_from(alloc, &mut SureSource::new(Bytes::from_vec(file), 10)) {
+            Ok(First::Other(front)) => assert_eq!(rt; front.as_slice().len(), len),
+            _ => return Err(Fail::from("it was taken for a session")),
+        }
     }
     Ok(())
 }

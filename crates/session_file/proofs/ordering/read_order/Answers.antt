@@ -27,6 +27,7 @@ returns c =
       complete = λ other after is e. order ∙ (is_order_of c.args.bytes.now c.args.from c.args.session.now other after c.acts-acts.ensures.session is e).same;
       passed = result-passed c.args.bytes.now c.args.from c.args.session.now.acts front rows;
       broken = tt;
+      within = tt;
     }
 
 pub returns-in_err-at-clause-complete : goal.returns-in_err-at-clause-complete

@@ -1,52 +1,32 @@
-use Rattle.std.proofs.Common.{rules, ◌≡◌, ◌++◌, length, ap, subst, ◌∙◌, arith}
-use Rattle.std.proofs.lemmas.List.{length-drop}
+use Rattle.std.proofs.Common.{◌≡◌, ◌++◌, arith}
 use Rattle.std.proofs.lemmas.Result.{err_from_is_err_and}
-use Rattle.std.specs.Io.KnownBytes.{Consumes}
-use Rattle.zone_model.specs.Sessions.{header_bytes}
-use Rattle.session_file.proofs.Sizes.{header_size}
-use Rattle.session_file.proofs.Streams.{came_first, read_front, header_taken, gives_all, stops_all}
+use Rattle.zone_model.specs.Sessions.{spelling}
+use Rattle.session_file.specs.Streams.{BeginsWith}
+use Rattle.session_file.proofs.Streams.{began_more, began_few, began_front}
 use Rattle.session_file.proofs.streaming.read_from.Goals as goal
 
-pub returns-in_err-fill_header-clause-stops : goal.returns-in_err-fill_header-clause-stops
-returns-in_err-fill_header-clause-stops g c =
-    let p = err_from_is_err_and c.from_residual.result c.from_residual.ensures.1 in
+pub returns-in_err-has_ended-clause-stops : goal.returns-in_err-has_ended-clause-stops
+returns-in_err-has_ended-clause-stops g c =
+    let p = err_from_is_err_and c.from_residual-in_err-has_ended.result c.from_residual-in_err-has_ended.ensures.1 in
     let left = g.S.Source.left c.args.source.now in
-    let now = g.S.Source.left c.fill_header.new.source in
-    let came = came_first left now c.new-feed.result c.fill_header.new.feed c.new-feed.ensures c.in_err-fill_header.ensures.goes_on in
-    rw p.1 (read_front left now c.fill_header.new.feed came (omega (arith, c.in_err-fill_header.ensures.few)))
+    let mid = g.S.Source.left c.begin_from.new.source in
+    let began : BeginsWith left mid c.in-Session.begun = rw c.in-Session.is at c.in_ok-begun.ensures.begins in
+    rw p.1 (began_front left mid (g.S.Source.left c.has_ended.new.source) c.in-Session.begun c.has_ended.new.feed began c.in_err-has_ended.ensures.goes_on (omega (arith, c.in_err-has_ended.ensures.held, began.few)))
 
-pub read_after-requires-clause-held : goal.read_after-requires-clause-held
-read_after-requires-clause-held g c = omega (arith, ap length c.skip.ensures, length-drop 64 c.fill_header.new.feed, c.in_ok-fill_header.ensures.few)
-
-pub returns-in_err-of-in-Err-clause-stops : goal.returns-in_err-of-in-Err-clause-stops
-returns-in_err-of-in-Err-clause-stops g c =
-    let p = err_from_is_err_and c.from_residual-in_err-of-in-Err.result c.from_residual-in_err-of-in-Err.ensures.1 in
+pub returns-in_err-spelled-clause-stops : goal.returns-in_err-spelled-clause-stops
+returns-in_err-spelled-clause-stops g c =
+    let p = err_from_is_err_and c.from_residual-in_err-spelled.result c.from_residual-in_err-spelled.ensures.1 in
     let left = g.S.Source.left c.args.source.now in
-    let now = g.S.Source.left c.fill_header.new.source in
-    let came = came_first left now c.new-feed.result c.fill_header.new.feed c.new-feed.ensures c.in_ok-fill_header.ensures.goes_on in
-    rw p.1 (read_front left now c.fill_header.new.feed came (omega (arith, c.in_ok-fill_header.ensures.few)))
+    let mid = g.S.Source.left c.begin_from.new.source in
+    let began : BeginsWith left mid c.in-Session.begun = rw c.in-Session.is at c.in_ok-begun.ensures.begins in
+    rw p.1 (began_front left mid (g.S.Source.left c.has_ended.new.source) c.in-Session.begun c.has_ended.new.feed began c.in_ok-has_ended.ensures.goes_on (omega (arith, c.in_ok-has_ended.ensures.held, began.few)))
 
-pub returns-in-Ok : goal.returns-in-Ok
-returns-in-Ok g c =
+pub returns-clause-gives : goal.returns-clause-gives
+returns-clause-gives g c =
+    let b = c.in-Session.begun in
     let left = g.S.Source.left c.args.source.now in
-    let mid = g.S.Source.left c.fill_header.new.source in
-    let now = g.S.Source.left c.read_after.new.source in
-    let fields = c.in-Ok.header.geometry.fields in
-    let header = header_bytes fields c.in-Ok.header.commands in
-    let split : c.fill_header.new.feed ≡ header ++ c.skip.new.self =
-    header_taken c.rest.result.now c.fill_header.new.feed c.skip.new.self fields c.in-Ok.header.commands c.rest.ensures.rest c.rest.ensures.bytes c.in-Ok.ensures.passed c.in-Ok.ensures.geometry c.in-Ok.ensures.commands c.skip.ensures in
-    let came : Consumes left mid (header ++ c.skip.new.self) = subst (Consumes left mid) split (came_first left mid c.new-feed.result c.fill_header.new.feed c.new-feed.ensures c.in_ok-fill_header.ensures.goes_on) in
-    record {
-      gives = gives_all left mid now header c.skip.new.self c.read_after.result came c.read_after.ensures.gives;
-      stops = stops_all left mid now header c.skip.new.self c.read_after.result came (header_size fields c.in-Ok.header.commands) c.read_after.ensures.stops;
-      fault = search rules;
-      never_falls = search rules;
-    }
-
-pub returns-in_ok-of-in-Err-clause-gives : goal.returns-in_ok-of-in-Err-clause-gives
-returns-in_ok-of-in-Err-clause-gives g c =
-    let left = g.S.Source.left c.args.source.now in
-    let now = g.S.Source.left c.fill_header.new.source in
-    let came = came_first left now c.new-feed.result c.fill_header.new.feed c.new-feed.ensures c.in_ok-fill_header.ensures.goes_on in
-    let same : c.in_ok-of-in-Err.field-0 ≡ c.fill_header.new.feed = c.in_ok-of-in-Err.ensures ∙ c.rest-in-Err.ensures.rest in
-    rw same (came, omega (arith, c.in_ok-fill_header.ensures.few))
+    let mid = g.S.Source.left c.begin_from.new.source in
+    let after = c.has_ended.new.feed in
+    let began : BeginsWith left mid b = rw c.in-Session.is at c.in_ok-begun.ensures.begins in
+    let same : c.in_ok-spelled.field-0 ≡ spelling b.session ++ after = rw c.rest-2.ensures.rest at c.in_ok-spelled.ensures in
+    rw same (began_more left mid (g.S.Source.left c.has_ended.new.source) b after began c.in_ok-has_ended.ensures.goes_on, began_few b after began.session (omega (arith, c.in_ok-has_ended.ensures.held, began.few)))
