@@ -1,12 +1,11 @@
 -- How an input is compared with bytes, one part after the other.
-use Rattle.std.proofs.Common.{◌≡◌, ◌≢◌, ℕ, ◌+◌, ◌<◌, ◌≤◌, false, List, [], ◌∷◌, ◌++◌, length, take, drop, get_or, Some, None, refl, sym, ap, subst, ◌∙◌, ⊎_elim, arith}
+use Rattle.std.proofs.Common.{◌≡◌, ◌≢◌, ℕ, suc, ◌+◌, ◌<◌, ◌≤◌, Bool, true, false, cond, List, [], ◌∷◌, ◌++◌, length, take, drop, get_or, Some, None, refl, sym, ap, subst, ◌∙◌, ⊎_elim, arith}
 use Rattle.std.proofs.lemmas.Bool.{eq-eqb, cases_lt}
 use Rattle.std.proofs.lemmas.Bool.Decides.{nat_tests}
 use Rattle.std.proofs.lemmas.List.{append-nil, append_assoc, length-append, drop_all, drop_more, take_more, take-append-drop, take_all}
 use Rattle.std.specs.Prelude.{◌==◌, Result, Ok, Err, IfOk, IfErr}
 use Rattle.std.specs.List.{flat_map}
-use Rattle.zns_runner.specs.declared.comparing.CompareErr.{CompareErr}
-use Rattle.zns_runner.specs.declared.comparing.CompareErr.TheVariants.{NoMemory, Differs}
+use Rattle.zns_runner.specs.declared.comparing.Difference.{Difference}
 use Rattle.zns_runner.specs.Differences.{first_difference, StandAt, DiffersFrom, IsDifference}
 
 -- ---- first differences
@@ -52,9 +51,8 @@ stand_after input at mid end xs ys first second = record {
 }
 
 -- an input that differs from a later part
-pub differs_later : (input : List ℕ) (at mid : ℕ) (xs ys : List ℕ) (e : CompareErr) → StandAt input at xs mid → DiffersFrom input mid ys e → DiffersFrom input at (xs ++ ys) e
-differs_later input at mid xs ys NoMemory first second = tt
-differs_later input at mid xs ys (Differs offset) first second = λ after.
+pub differs_later : (input : List ℕ) (at mid : ℕ) (xs ys : List ℕ) (offset : ℕ) → StandAt input at xs mid → DiffersFrom input mid ys offset → DiffersFrom input at (xs ++ ys) offset
+differs_later input at mid xs ys offset first second = λ after.
     ap (λ (rest : List ℕ). first_difference at rest ((xs ++ ys) ++ after)) first.there
     ∙ ap (λ (bytes : List ℕ). first_difference at (xs ++ drop mid input) bytes) (append_assoc xs ys after)
     ∙ first_difference-append at xs (drop mid input) (ys ++ after)
@@ -62,15 +60,13 @@ differs_later input at mid xs ys (Differs offset) first second = λ after.
     ∙ second after
 
 -- one that differs from an earlier part
-pub differs_sooner : (input : List ℕ) (at : ℕ) (xs ys : List ℕ) (e : CompareErr) → DiffersFrom input at xs e → DiffersFrom input at (xs ++ ys) e
-differs_sooner input at xs ys NoMemory first = tt
-differs_sooner input at xs ys (Differs offset) first = λ after.
+pub differs_sooner : (input : List ℕ) (at : ℕ) (xs ys : List ℕ) (offset : ℕ) → DiffersFrom input at xs offset → DiffersFrom input at (xs ++ ys) offset
+differs_sooner input at xs ys offset first = λ after.
     ap (λ (bytes : List ℕ). first_difference at (drop at input) bytes) (append_assoc xs ys after) ∙ first (ys ++ after)
 
 -- with nothing after
-pub differs_alone : (input : List ℕ) (at : ℕ) (xs : List ℕ) (e : CompareErr) → DiffersFrom input at xs e → IsDifference input at xs e
-differs_alone input at xs NoMemory all = tt
-differs_alone input at xs (Differs offset) all = ap (λ (bytes : List ℕ). first_difference at (drop at input) bytes) (sym (append-nil xs)) ∙ all []
+pub differs_alone : (input : List ℕ) (at : ℕ) (xs : List ℕ) (offset : ℕ) → DiffersFrom input at xs offset → IsDifference input at xs offset
+differs_alone input at xs offset all = ap (λ (bytes : List ℕ). first_difference at (drop at input) bytes) (sym (append-nil xs)) ∙ all []
 
 -- an input that goes on after all parts
 pub goes_on : (input : List ℕ) (at end : ℕ) (xs : List ℕ) → StandAt input at xs end → end < length input → first_difference at (drop at input) xs ≡ Some end
@@ -90,16 +86,66 @@ ends_there input at end xs stand h = stand.there ∙ ap (λ (rest : List ℕ). x
 pub stand_same : (input : List ℕ) (from to : ℕ) (xs ys : List ℕ) → xs ≡ ys → StandAt input from xs to → StandAt input from ys to
 stand_same input from to xs ys same stand = let P : List ℕ → Type 0 = λ bytes. StandAt input from bytes to in subst P same stand
 
-pub differs_same : (input : List ℕ) (from : ℕ) (xs ys : List ℕ) (e : CompareErr) → xs ≡ ys → DiffersFrom input from xs e → DiffersFrom input from ys e
-differs_same input from xs ys e same differs = let P : List ℕ → Type 0 = λ bytes. DiffersFrom input from bytes e in subst P same differs
+pub differs_same : (input : List ℕ) (from : ℕ) (xs ys : List ℕ) (offset : ℕ) → xs ≡ ys → DiffersFrom input from xs offset → DiffersFrom input from ys offset
+differs_same input from xs ys offset same differs = let P : List ℕ → Type 0 = λ bytes. DiffersFrom input from bytes offset in subst P same differs
 
-pub answer_stands : (r : Result ℕ CompareErr) (input : List ℕ) (from mid : ℕ) (xs ys : List ℕ) → StandAt input from xs mid → IfOk r (StandAt input mid ys) → IfOk r (StandAt input from (xs ++ ys))
+pub answer_stands : (r : Result ℕ Difference) (input : List ℕ) (from mid : ℕ) (xs ys : List ℕ) → StandAt input from xs mid → IfOk r (StandAt input mid ys) → IfOk r (StandAt input from (xs ++ ys))
 answer_stands (Ok end) input from mid xs ys first second = stand_after input from mid end xs ys first second
 answer_stands (Err e) input from mid xs ys first second = second
 
-pub answer_differs : (r : Result ℕ CompareErr) (input : List ℕ) (from mid : ℕ) (xs ys : List ℕ) → StandAt input from xs mid → IfErr r (DiffersFrom input mid ys) → IfErr r (DiffersFrom input from (xs ++ ys))
+pub answer_differs : (r : Result ℕ Difference) (input : List ℕ) (from mid : ℕ) (xs ys : List ℕ) → StandAt input from xs mid → IfErr r (λ d. DiffersFrom input mid ys d.offset) → IfErr r (λ d. DiffersFrom input from (xs ++ ys) d.offset)
 answer_differs (Ok end) input from mid xs ys first second = second
-answer_differs (Err e) input from mid xs ys first second = differs_later input from mid xs ys e first second
+answer_differs (Err e) input from mid xs ys first second = differs_later input from mid xs ys e.offset first second
+
+-- ---- bytes that are held of a longer input
+
+-- where a first difference is
+difference-within : (at : ℕ) (xs ys : List ℕ) (offset : ℕ) → first_difference at xs ys ≡ Some offset → offset ≤ at + length xs
+unfolding first_difference
+difference-within at [] [] offset e = absurd cc
+difference-within at [] (y ∷ ys) offset e = let same : at ≡ offset = cc in omega (arith, same)
+difference-within at (x ∷ xs) [] offset e = let same : at ≡ offset = cc in omega (arith, same)
+difference-within at (x ∷ xs) (y ∷ ys) offset e = by_byte (x == y) (λ h. difference-within (at + 1) xs ys offset h) e
+  where
+    by_byte : (b : Bool) → (first_difference (at + 1) xs ys ≡ Some offset → offset ≤ at + 1 + length xs) → cond b (first_difference (at + 1) xs ys) (Some at) ≡ Some offset → offset ≤ at + suc (length xs)
+    by_byte true later e = omega (arith, later e)
+    by_byte false later e = let same : at ≡ offset = cc in omega (arith, same)
+
+pub differs-within : (held bytes : List ℕ) (offset : ℕ) → DiffersFrom held 0 bytes offset → offset ≤ length held
+differs-within held bytes offset differs = omega (arith, difference-within 0 held (bytes ++ []) offset (differs []))
+
+-- places that are counted from elsewhere
+difference-shift : (from at : ℕ) (xs ys : List ℕ) (offset : ℕ) → first_difference at xs ys ≡ Some offset → first_difference (from + at) xs ys ≡ Some (from + offset)
+unfolding first_difference
+difference-shift from at [] [] offset e = absurd cc
+difference-shift from at [] (y ∷ ys) offset e = let same : at ≡ offset = cc in ap (λ n. Some (from + n)) same
+difference-shift from at (x ∷ xs) [] offset e = let same : at ≡ offset = cc in ap (λ n. Some (from + n)) same
+difference-shift from at (x ∷ xs) (y ∷ ys) offset e = by_byte (x == y) (λ h. difference-shift from (at + 1) xs ys offset h) e
+  where
+    by_byte : (b : Bool) → (first_difference (at + 1) xs ys ≡ Some offset → first_difference (from + (at + 1)) xs ys ≡ Some (from + offset)) → cond b (first_difference (at + 1) xs ys) (Some at) ≡ Some offset
+        → cond b (first_difference (from + at + 1) xs ys) (Some (from + at)) ≡ Some (from + offset)
+    by_byte true later e = ap (λ n. first_difference n xs ys) (omega arith) ∙ later e
+    by_byte false later e = let same : at ≡ offset = cc in ap (λ n. Some (from + n)) same
+
+-- an input that begins with other bytes than these, or ends before they do
+difference-held : (at : ℕ) (held bytes more after : List ℕ) (offset : ℕ) → ((rest : List ℕ) → first_difference at held (bytes ++ rest) ≡ Some offset) → (length held < length bytes → more ≡ []) → first_difference at (held ++ more) (bytes ++ after) ≡ Some offset
+unfolding first_difference
+difference-held at held [] more after offset differs ends =
+    let none : None ≡ Some offset = sym (first_difference-same at held) ∙ differs held in absurd cc
+difference-held at [] (y ∷ bytes) more after offset differs ends =
+    let none : more ≡ [] = ends (omega arith) in
+    rw none (differs after)
+difference-held at (x ∷ held) (y ∷ bytes) more after offset differs ends = by_byte (x == y) differs (λ h few. difference-held (at + 1) held bytes more after offset h few)
+  where
+    by_byte : (b : Bool) → ((rest : List ℕ) → cond b (first_difference (at + 1) held (bytes ++ rest)) (Some at) ≡ Some offset)
+        → (((rest : List ℕ) → first_difference (at + 1) held (bytes ++ rest) ≡ Some offset) → (length held < length bytes → more ≡ []) → first_difference (at + 1) (held ++ more) (bytes ++ after) ≡ Some offset)
+        → cond b (first_difference (at + 1) (held ++ more) (bytes ++ after)) (Some at) ≡ Some offset
+    by_byte true differs later = later differs (λ few. ends (omega arith))
+    by_byte false differs later = differs after
+
+pub held_differs : (at : ℕ) (held bytes more : List ℕ) (offset : ℕ) → DiffersFrom held 0 bytes offset → (length held < length bytes → more ≡ []) → (after : List ℕ) → first_difference at (held ++ more) (bytes ++ after) ≡ Some (at + offset)
+held_differs at held bytes more offset differs ends after =
+    ap (λ n. first_difference n (held ++ more) (bytes ++ after)) (omega arith) ∙ difference-shift at 0 (held ++ more) (bytes ++ after) offset (difference-held 0 held bytes more after offset differs ends)
 
 -- ---- byte by byte
 
@@ -115,13 +161,13 @@ byte_stands input made from at i within few same stand =
     } in
     rw (take_more made i 0 few) (stand_after input from at (at + 1) (take i made) (get_or made i 0 ∷ []) stand one)
 
-pub byte_differs : (input made : List ℕ) (from at i : ℕ) → i < length made → (at < length input → get_or input at 0 ≢ get_or made i 0) → StandAt input from (take i made) at → DiffersFrom input from made (Differs at)
+pub byte_differs : (input made : List ℕ) (from at i : ℕ) → i < length made → (at < length input → get_or input at 0 ≢ get_or made i 0) → StandAt input from (take i made) at → DiffersFrom input from made at
 byte_differs input made from at i few other stand after =
     let rest : List ℕ = drop (i + 1) made ++ after in
-    let here : DiffersFrom input at (get_or made i 0 ∷ drop (i + 1) made) (Differs at) = λ more. differs_here input at (get_or made i 0) (drop (i + 1) made ++ more) other in
+    let here : DiffersFrom input at (get_or made i 0 ∷ drop (i + 1) made) at = λ more. differs_here input at (get_or made i 0) (drop (i + 1) made ++ more) other in
     let whole : made ≡ take i made ++ get_or made i 0 ∷ drop (i + 1) made = sym (take-append-drop i made) ∙ ap (λ (tail : List ℕ). take i made ++ tail) (drop_more made i 0 few) in
     ap (λ (bytes : List ℕ). first_difference from (drop from input) (bytes ++ after)) whole
-    ∙ differs_later input from at (take i made) (get_or made i 0 ∷ drop (i + 1) made) (Differs at) stand here after
+    ∙ differs_later input from at (take i made) (get_or made i 0 ∷ drop (i + 1) made) at stand here after
 
 -- ---- item by item
 
@@ -140,10 +186,10 @@ item_stands f input xs from at end i d few before here =
     ap (flat_map f) (take_more xs i d few) ∙ flat_map-append f (take i xs) (x ∷ []) ∙ ap (λ (tail : List ℕ). flat_map f (take i xs) ++ tail) (append-nil (f x)) in
     rw more (stand_after input from at end (flat_map f (take i xs)) (f x) before here)
 
-pub item_differs : {X : Type 0} (f : X → List ℕ) (input : List ℕ) (xs : List X) (from at i : ℕ) (d : X) (e : CompareErr) → i < length xs → StandAt input from (flat_map f (take i xs)) at → DiffersFrom input at (f (get_or xs i d)) e
-    → DiffersFrom input from (flat_map f xs) e
-item_differs f input xs from at i d e few before here =
+pub item_differs : {X : Type 0} (f : X → List ℕ) (input : List ℕ) (xs : List X) (from at i : ℕ) (d : X) (offset : ℕ) → i < length xs → StandAt input from (flat_map f (take i xs)) at → DiffersFrom input at (f (get_or xs i d)) offset
+    → DiffersFrom input from (flat_map f xs) offset
+item_differs f input xs from at i d offset few before here =
     let x = get_or xs i d in
     let whole : flat_map f xs ≡ flat_map f (take i xs) ++ (f x ++ flat_map f (drop (i + 1) xs)) =
     ap (flat_map f) (sym (take-append-drop i xs) ∙ ap (λ (tail : List _). take i xs ++ tail) (drop_more xs i d few)) ∙ flat_map-append f (take i xs) (x ∷ drop (i + 1) xs) in
-    rw whole (differs_later input from at (flat_map f (take i xs)) (f x ++ flat_map f (drop (i + 1) xs)) e before (differs_sooner input at (f x) (flat_map f (drop (i + 1) xs)) e here))
+    rw whole (differs_later input from at (flat_map f (take i xs)) (f x ++ flat_map f (drop (i + 1) xs)) offset before (differs_sooner input at (f x) (flat_map f (drop (i + 1) xs)) offset here))

@@ -2,11 +2,13 @@ pub mod Orders
 pub mod ServedActs
 pub mod Sizes
 pub mod Comparisons
+pub mod Tails
 pub mod Mixing
 pub mod Iterated
 pub mod Inputs
 pub mod Joined
 pub mod Checked
+pub mod Answers
 pub mod Called
 pub mod Ends
 pub mod Finished

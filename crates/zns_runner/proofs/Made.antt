@@ -1,21 +1,28 @@
 -- What a run makes of an input that was read whole.
-use Rattle.std.proofs.Common.{◌≡◌, ℕ, ◌+◌, ◌^◌, List, Option, Some, None, Result, Ok, Err, IsErrAnd, sym, subst}
+use Rattle.std.proofs.Common.{◌≡◌, ℕ, ◌+◌, ◌-◌, ◌^◌, ◌≤◌, List, [], ◌++◌, length, take, drop, Option, Some, None, Result, Ok, Err, IsErrAnd, refl, sym, ap, subst, ◌∙◌, arith}
+use Rattle.std.proofs.lemmas.List.{append-nil, take-append-drop, length-append, length-take}
+use Rattle.std.specs.Io.KnownBytes.{Consumes}
+use Rattle.zns_io.specs.Faults.{Rose}
+use Rattle.zns_io.specs.declared.read_err.ReadErr.{ReadErr}
+use Rattle.zns_io.specs.declared.read_err.ReadErr.TheVariants as read_err
 use Rattle.zns_io.specs.declared.bytes.Bytes.{Bytes}
-use Rattle.zns_io.specs.Reading.{ReadsAll, ReadsFrontUpTo}
+use Rattle.zns_io.specs.Reading.{ReadsAll, ReadsFrontUpTo, IsByLimit}
 use Rattle.zone_model.specs.Sessions.{Recorded, IsSession, spells, spelling}
 use Rattle.session_file.specs.declared.file_err.FileErr.{FileErr}
-use Rattle.session_file.specs.FileRules.{file_rows}
+use Rattle.session_file.specs.FileRules.{front_rows, file_rows}
 use Rattle.session_file.specs.Faults.{IsFirstOf}
 use Rattle.zns_runner.specs.declared.status.Status.{Status}
 use Rattle.zns_runner.specs.declared.status.Status.TheVariants as status
 use Rattle.zns_runner.specs.declared.task.Task.{Task}
 use Rattle.zns_runner.specs.declared.task.Task.TheVariants as the_task
-use Rattle.zns_runner.specs.Tasks.{TakesSession}
+use Rattle.zns_runner.specs.Tasks.{MakesSession, TakesSession}
 use Rattle.zns_runner.specs.Inputs.{input_of, Reads}
 use Rattle.zns_runner.specs.Outputs.{IsOutputFor}
 use Rattle.zns_runner.specs.Outcomes.{CallsFor, CallsForOf}
-use Rattle.zns_runner.specs.Making.{Makes, IsRefused, IsInput, EndsBefore, IsSessionRead, IsOutputOf, GivesSession, GivesOutput, status_of}
-use Rattle.zns_runner.proofs.Inputs.{reads, takes-reads, session_cause}
+use Rattle.zns_runner.specs.Making.{Makes, IsRefused, IsInput, EndsBefore, IsSessionRead, IsOutputOf, GivesSession, GivesOutput, status_of, status_of_reading}
+use Rattle.zns_runner.specs.Answers.{IsBegun}
+use Rattle.zns_runner.proofs.Inputs.{too_long, reads, none_read, takes-reads, session_cause, front_cause}
+use Rattle.zns_runner.proofs.Joined.{joined_all, all_front, front_then, joined_over}
 
 -- what was read calls for an answer, and so does what was told
 all_told : (t : Task) (left now : Option (List ℕ)) (input : List ℕ) (s : Status) → ReadsAll left now input → CallsFor t input s → CallsForOf t left s
@@ -63,3 +70,61 @@ no_session t left now faults faults_now input e takes is first = gives_output t 
 pub session_ends : (t : Task) (left now : Option (List ℕ)) (faults faults_now : ℕ) (e : Status) (result : Result Bytes Status) → TakesSession t → GivesSession left now faults faults_now (Err e) → IsErrAnd result (λ s. s ≡ e) → GivesOutput t left now faults faults_now result
 session_ends t left now faults faults_now e (Ok output) takes ends is = absurd is
 session_ends t left now faults faults_now e (Err s) takes ends is = subst (λ x. EndsBefore t left now faults faults_now x) (sym is) (ends t takes)
+
+-- ---- an input whose front came already
+
+-- reading the rest of it ended
+pub reading_ends : (t : Task) (first left now : Option (List ℕ)) (front : List ℕ) (faults faults_now : ℕ) (e : ReadErr) → ¬ (MakesSession t) → Consumes first left front → length front ≤ 2 ^ 29 → IsByLimit left (2 ^ 29 - length front) (Err e)
+    → ReadsFrontUpTo left now (2 ^ 29 - length front + 1) → (e ≡ read_err.Failed → Rose faults faults_now) → EndsBefore t first now faults faults_now (status_of_reading e)
+reading_ends t first left now front faults faults_now read_err.NoMemory reading came few limit read fault = front_then first left now front _ (2 ^ 29 + 1) came read (omega (arith, few))
+reading_ends t first left now front faults faults_now read_err.Failed reading came few limit read fault = (front_then first left now front _ (2 ^ 29 + 1) came read (omega (arith, few)), fault refl)
+reading_ends t first left now front faults faults_now read_err.Over reading came few limit read fault = record {
+  cause = too_long t first reading (joined_over first left front came few limit);
+  read = front_then first left now front _ (2 ^ 29 + 1) came read (omega (arith, few));
+}
+
+-- it was read to its end
+pub input_read : (t : Task) (first left now : Option (List ℕ)) (front rest : List ℕ) → ¬ (MakesSession t) → Consumes first left front → length front ≤ 2 ^ 29 → length rest ≤ 2 ^ 29 - length front → ReadsAll left now rest → IsInput t first now (front ++ rest)
+input_read t first left now front rest reading came few limit read =
+    let all : ReadsAll first now (front ++ rest) = joined_all first left now front rest came read in
+    record {
+      read = reads t first now (front ++ rest) reading all;
+      short = omega (arith, length-append front rest, few, limit);
+      front = all_front first now (front ++ rest) (2 ^ 29 + 1) all (omega (arith, length-append front rest, few, limit));
+    }
+
+-- nothing came already
+pub none_came : (left : Option (List ℕ)) (front : List ℕ) → front ≡ [] → Consumes left left front
+none_came None front none = tt
+none_came (Some told) front none = rw none refl
+
+-- an answer that ends with the error of a reading that gave no input
+pub input_ends : (t : Task) (left now : Option (List ℕ)) (faults faults_now : ℕ) (e : Status) (result : Result Bytes Status) → EndsBefore t left now faults faults_now e → IsErrAnd result (λ s. s ≡ e) → GivesOutput t left now faults faults_now result
+input_ends t left now faults faults_now e (Ok output) ends is = absurd is
+input_ends t left now faults faults_now e (Err s) ends is = subst (λ x. EndsBefore t left now faults faults_now x) (sym is) ends
+
+-- ---- a session, and what comes after it
+
+-- what was read whole begins with it
+front_came : (left now : Option (List ℕ)) (input : List ℕ) (s : Recorded) (at : ℕ) → spells s (take at input) → ReadsAll left now input → Consumes left now (spelling s ++ drop at input)
+front_came None now input s at spelled read = tt
+front_came (Some told) now input s at spelled read =
+    let P : Option (List ℕ) → Type 0 = λ rest. Consumes (Some told) rest (spelling s ++ drop at input) in
+    let whole : told ≡ (spelling s ++ drop at input) ++ [] = sym read.0 ∙ sym (take-append-drop at input) ∙ ap (λ (front : List ℕ). front ++ drop at input) spelled ∙ sym (append-nil (spelling s ++ drop at input)) in
+    subst P (sym read.1) whole
+
+pub front_begun : (left now : Option (List ℕ)) (input : List ℕ) (s : Recorded) (at : ℕ) → IsSession s → spells s (take at input) → at ≤ length input → ReadsAll left now input → IsBegun left now s (record { held = drop at input; at = at })
+front_begun left now input s at valid spelled within read = record {
+  valid = valid;
+  long = omega (arith, ap length spelled, length-take at input, within);
+  read = front_came left now input s at spelled read;
+}
+
+-- an input that doesn't begin with one
+pub no_front : (left now : Option (List ℕ)) (faults faults_now : ℕ) (input : List ℕ) (e : FileErr) → IsInput the_task.Check left now input → IsFirstOf (front_rows input) e → EndsBefore the_task.Check left now faults faults_now (status_of e)
+no_front left now faults faults_now input e is first = gives_output the_task.Check left now faults faults_now input (Err (status_of e)) is.read is.front (front_cause input e is.short first)
+
+-- ---- a session that is made
+
+pub made_output : (number count : ℕ) (left : Option (List ℕ)) (faults : ℕ) (result : Result Bytes Status) → Makes (the_task.Gen number count) [] result → GivesOutput (the_task.Gen number count) left left faults faults result
+made_output number count left faults result made = gives_output (the_task.Gen number count) left left faults faults [] result (refl, refl) (none_read left (2 ^ 29 + 1)) made

@@ -1,7 +1,5 @@
 -- How an input differs from bytes that are made one part after the other.
-use Rattle.std.specs.Prelude.{◌≡◌, ℕ, ◌+◌, ◌≤◌, ◌==◌, if◌then◌else◌, List, [], ◌∷◌, ◌++◌, length, drop, Option, Some, None, ⊤}
-use Rattle.zns_runner.specs.declared.comparing.CompareErr.{CompareErr}
-use Rattle.zns_runner.specs.declared.comparing.CompareErr.TheVariants.{NoMemory, Differs}
+use Rattle.std.specs.Prelude.{◌≡◌, ℕ, ◌+◌, ◌≤◌, ◌==◌, if◌then◌else◌, List, [], ◌∷◌, ◌++◌, length, drop, Option, Some, None}
 
 -- The first place at which two lists differ or one of them ends, if there is one. The places are counted from this
 -- number.
@@ -17,12 +15,10 @@ pub record StandAt (input : List ℕ) (from : ℕ) (bytes : List ℕ) (to : ℕ)
   pub end : to ≡ from + length bytes
   pub within : to ≤ length input
 
--- Whatever comes after these bytes, the input from an offset on differs from them first at the offset that is told.
-abbrev pub DiffersFrom : List ℕ → ℕ → List ℕ → CompareErr → Type 0
-DiffersFrom input at bytes NoMemory = ⊤
-DiffersFrom input at bytes (Differs offset) = (after : List ℕ) → first_difference at (drop at input) (bytes ++ after) ≡ Some offset
+-- whatever comes after these bytes, the input from an offset on differs from them first at another offset
+abbrev pub DiffersFrom : List ℕ → ℕ → List ℕ → ℕ → Type 0
+DiffersFrom input at bytes offset = (after : List ℕ) → first_difference at (drop at input) (bytes ++ after) ≡ Some offset
 
--- the input from an offset on differs from these bytes first at the offset that is told
-abbrev pub IsDifference : List ℕ → ℕ → List ℕ → CompareErr → Type 0
-IsDifference input at bytes NoMemory = ⊤
-IsDifference input at bytes (Differs offset) = first_difference at (drop at input) bytes ≡ Some offset
+-- the input from an offset on differs from these bytes first at another offset
+abbrev pub IsDifference : List ℕ → ℕ → List ℕ → ℕ → Type 0
+IsDifference input at bytes offset = first_difference at (drop at input) bytes ≡ Some offset

@@ -5,11 +5,13 @@ pub mod Sessions
 pub mod Serving
 pub mod Queues
 pub mod Differences
+pub mod Tails
 pub mod Checking
 pub mod Tasks
 pub mod Inputs
 pub mod Outputs
 pub mod Outcomes
+pub mod Answers
 pub mod Making
 pub mod Numbers
 pub mod Words

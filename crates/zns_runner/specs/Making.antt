@@ -9,8 +9,10 @@ use Rattle.zone_model.specs.Sessions.{Recorded, IsSession, spelling}
 use Rattle.session_file.specs.declared.file_err.FileErr.{FileErr}
 use Rattle.session_file.specs.declared.file_err.FileErr.TheVariants.{NoMemory, Bad, Large}
 use Rattle.session_file.specs.declared.file_err.Which.TheVariants as which
-use Rattle.zns_runner.specs.declared.comparing.CompareErr.{CompareErr}
-use Rattle.zns_runner.specs.declared.comparing.CompareErr.TheVariants as compare_err
+use Rattle.zns_io.specs.declared.read_err.ReadErr.{ReadErr}
+use Rattle.zns_io.specs.declared.read_err.ReadErr.TheVariants as read_err
+use Rattle.zns_runner.specs.declared.compare_err.CompareErr.{CompareErr}
+use Rattle.zns_runner.specs.declared.compare_err.CompareErr.TheVariants as compare_err
 use Rattle.zns_runner.specs.declared.status.Status.{Status}
 use Rattle.zns_runner.specs.declared.status.Status.TheVariants as status
 use Rattle.zns_runner.specs.declared.task.Task.{Task}
@@ -26,10 +28,24 @@ status_of NoMemory = status.NoMemory
 status_of (Bad reason offset) = status.BadFile reason offset
 status_of (Large which number) = status.TooLarge which number
 
--- how a difference is answered
-abbrev pub status_of_difference : CompareErr → Status
-status_of_difference compare_err.NoMemory = status.NoMemory
-status_of_difference (compare_err.Differs offset) = status.Differs offset
+-- how it is answered that reading ended with an error
+abbrev pub status_of_reading : ReadErr → Status
+status_of_reading read_err.NoMemory = status.NoMemory
+status_of_reading read_err.Failed = status.ReadFault
+status_of_reading read_err.Over = status.TooLarge which.Input (2 ^ 29 + 1)
+
+-- how it is answered that a comparison ended with an error
+abbrev pub status_of_comparison : CompareErr → Status
+status_of_comparison compare_err.NoMemory = status.NoMemory
+status_of_comparison compare_err.Failed = status.ReadFault
+status_of_comparison compare_err.Over = status.TooLarge which.Input (2 ^ 29 + 1)
+status_of_comparison (compare_err.Differs offset) = status.Differs offset
+
+-- the error of a comparison that reading ended
+abbrev pub compare_err_of : ReadErr → CompareErr
+compare_err_of read_err.NoMemory = compare_err.NoMemory
+compare_err_of read_err.Failed = compare_err.Failed
+compare_err_of read_err.Over = compare_err.Over
 
 -- an input of which no output is made calls for the answer, or memory ran out
 abbrev pub IsCause : Task → List ℕ → Status → Type 0

@@ -1,19 +1,25 @@
-ghost use Rattle.std.specs.Prelude.{◌≡◌, ◌+◌, ◌*◌, ◌≤◌, ◌^◌, [], IfOk, IfErr, OnOk, All, length, drop};
-ghost use Rattle.zone_model.specs.Sessions.{IsAct, IsOrder, replies_bytes};
-ghost use Rattle.zns_runner.specs.Differences.{StandAt, DiffersFrom, IsDifference};
+ghost use Rattle.std.specs.Prelude.{◌≡◌, ◌+◌, ◌*◌, ◌≤◌, ◌<◌, ◌^◌, [], IfOk, IfErr, OnOk, All, length};
+ghost use Rattle.std.specs.Io.KnownBytes.{IsAtEnd};
+ghost use Rattle.zone_model.specs.Sessions.{IsAct, IsSession, IsOrder, replies_bytes, order_bytes};
+ghost use Rattle.session_file.specs.Results.{IsShort, part_of};
+ghost use Rattle.zns_runner.specs.Tails.{StaysIn, ComeNext, ComeOthers, ComeOtherwise, StopsBy};
 ghost use Rattle.zns_runner.specs.Checking.{drive_bytes, bytes_after_order};
-ghost use Rattle.zns_runner.specs.Making.{Makes};
+ghost use Rattle.zns_runner.specs.Making.{GivesOutput};
+ghost use Rattle.zns_runner.specs.declared.task.Task.TheVariants as the_task;
+ghost use Rattle.zns_runner.specs.Answers.{Answers, IsConfirmedBy, CallsFrom};
 
-use crate::comparing::{CompareErr, compare, compare_reply};
+use crate::compare_err::CompareErr;
+use crate::comparing::{Difference, compare, compare_reply};
 use crate::merging::in_order;
 use crate::serving::{descriptors_of, page_of, serve_act};
 use crate::status::Status;
-use crate::task::Task;
-use session_file::{Order, Session, read_front, read_order};
+use crate::streaming::begun_from;
+use crate::tail::Tail;
+use session_file::{Order, Session, read_order_after};
 use solo_drive::Solo;
 use std::alloc::Global;
-use zns_io::Bytes;
-use zone_model::Act;
+use zns_io::{Bytes, Source};
+use zone_model::{Act, Reply};
 
 // What is written where a result is that of its session.
 const SAME: &[u8] = b"same\n";
@@ -21,107 +27,237 @@ const SAME: &[u8] = b"same\n";
 // The bytes of a result before the queues of its order.
 const FRONT_LEN: usize = 12;
 
-// The bytes of an order: those before its queues, and two for each.
-fn order_len(order: &Order) -> usize
-    ensures { result ≡ 12 + 2 * length order.now }
+// The bytes of a reply without its entries and what it read.
+const NUMBERS_LEN: usize = 6;
+
+// The bytes of an entry.
+const ENTRY_LEN: usize = 16;
+
+// The bytes of an order of so many acts: those before its queues, and two for each.
+fn order_len(acts: u32) -> usize
+    ensures { result ≡ 12 + 2 * acts }
 {
-    FRONT_LEN + 2 * order.len() as usize
+    FRONT_LEN + 2 * acts as usize
 }
 
-// Serves acts in their order, and compares each reply with the input from an offset on. The offset
-// after the last one.
-fn compare_acts(
+// The bytes of a reply.
+fn reply_len(reply: &Reply) -> usize
+    ensures { result ≡ length (part_of reply.now) }
+{
+    NUMBERS_LEN + ENTRY_LEN * reply.entries.len() + reply.read.as_slice().len()
+}
+
+// The difference of an input, by that of the bytes that are held.
+fn differs(tail: &Tail, difference: Difference) -> CompareErr
+    requires { difference.offset ≤ length tail.now.held }
+    ensures { result ≡ CompareErr.Differs (tail.now.at + difference.offset) }
+{
+    CompareErr::Differs {
+        offset: tail.at() + difference.offset as u64,
+    }
+}
+
+// Compares bytes with what comes next of the input, and takes it.
+fn take_bytes<S: Source>(
     alloc: Global,
+    source: &mut S,
+    tail: &mut Tail,
+    made: &[u8],
+) -> Result<(), CompareErr>
+    ensures stays { StaysIn (S.left source.old) (S.left source.new) tail.old tail.new }
+    ensures same { OnOk result (ComeNext (S.left source.old) tail.old tail.new made.now) }
+    ensures stops { IfErr result (StopsBy (S.faults source.old) (S.faults source.new) tail.new
+        (ComeOthers (S.left source.old) tail.old made.now)) }
+    ensures never_falls { S.faults source.old ≤ S.faults source.new }
+{
+    tail.fill(alloc, source, made.len())?;
+    match compare(tail.held(), 0, made) {
+        Ok(end) => {
+            tail.skip(end);
+            Ok(())
+        }
+        Err(difference) => Err(differs(tail, difference)),
+    }
+}
+
+// Compares a reply with what comes next of the input, and takes it.
+fn take_reply<S: Source>(
+    alloc: Global,
+    source: &mut S,
+    tail: &mut Tail,
+    reply: &Reply,
+) -> Result<(), CompareErr>
+    requires { IsShort reply.now }
+    ensures stays { StaysIn (S.left source.old) (S.left source.new) tail.old tail.new }
+    ensures same { OnOk result (ComeNext (S.left source.old) tail.old tail.new (part_of reply.now)) }
+    ensures stops { IfErr result (StopsBy (S.faults source.old) (S.faults source.new) tail.new
+        (ComeOthers (S.left source.old) tail.old (part_of reply.now))) }
+    ensures never_falls { S.faults source.old ≤ S.faults source.new }
+{
+    tail.fill(alloc, source, reply_len(reply))?;
+    match compare_reply(tail.held(), 0, reply) {
+        Ok(end) => {
+            tail.skip(end);
+            Ok(())
+        }
+        Err(difference) => Err(differs(tail, difference)),
+    }
+}
+
+// Serves acts in their order, and compares each reply with what comes next of the input.
+fn take_replies<S: Source>(
+    alloc: Global,
+    source: &mut S,
+    tail: &mut Tail,
     drive: &mut Solo,
     acts: Vec<Act>,
-    input: &[u8],
-    at: usize,
-) -> Result<usize, CompareErr>
+) -> Result<(), CompareErr>
     requires fresh { drive.old.acts ≡ [] }
     requires room { drive.old.spare ≡ length acts.items }
     requires acts { All (IsAct drive.old.geometry) acts.items }
-    requires at { at ≤ length input.now }
     ensures acts { OnOk result (drive.new.acts ≡ acts.items) }
     ensures geometry { drive.new.geometry ≡ drive.old.geometry }
-    ensures same { IfOk result
-        (StandAt input.now at (replies_bytes drive.old.geometry [] acts.items)) }
-    ensures differs { IfErr result
-        (DiffersFrom input.now at (replies_bytes drive.old.geometry [] acts.items)) }
+    ensures stays { StaysIn (S.left source.old) (S.left source.new) tail.old tail.new }
+    ensures same { OnOk result (ComeNext (S.left source.old) tail.old tail.new
+        (replies_bytes drive.old.geometry [] acts.items)) }
+    ensures stops { IfErr result (StopsBy (S.faults source.old) (S.faults source.new) tail.new
+        (ComeOthers (S.left source.old) tail.old
+        (replies_bytes drive.old.geometry [] acts.items))) }
+    ensures never_falls { S.faults source.old ≤ S.faults source.new }
 {
-    let mut at = at;
     for act in acts {
         let reply = serve_act(alloc, drive, act)?;
-        at = compare_reply(input, at, &reply)?;
+        take_reply(alloc, source, tail, &reply)?;
     }
-    Ok(at)
+    Ok(())
 }
 
-// Compares what a drive is after its acts with the input from an offset on.
-fn compare_drive(alloc: Global, drive: &Solo, input: &[u8], at: usize) -> Result<usize, CompareErr>
-    requires { at ≤ length input.now }
-    ensures same { IfOk result
-        (StandAt input.now at (drive_bytes drive.now.geometry drive.now.acts)) }
-    ensures differs { IfErr result
-        (DiffersFrom input.now at (drive_bytes drive.now.geometry drive.now.acts)) }
+// Compares what a drive is after its acts with what comes next of the input.
+fn take_drive<S: Source>(
+    alloc: Global,
+    source: &mut S,
+    tail: &mut Tail,
+    drive: &Solo,
+) -> Result<(), CompareErr>
+    ensures stays { StaysIn (S.left source.old) (S.left source.new) tail.old tail.new }
+    ensures same { OnOk result (ComeNext (S.left source.old) tail.old tail.new
+        (drive_bytes drive.now.geometry drive.now.acts)) }
+    ensures stops { IfErr result (StopsBy (S.faults source.old) (S.faults source.new) tail.new
+        (ComeOthers (S.left source.old) tail.old
+        (drive_bytes drive.now.geometry drive.now.acts))) }
+    ensures never_falls { S.faults source.old ≤ S.faults source.new }
 {
     let descriptors = descriptors_of(alloc, drive)?;
-    let at = compare(input, at, &descriptors)?;
+    take_bytes(alloc, source, tail, &descriptors)?;
     let page = page_of(alloc, drive)?;
-    compare(input, at, &page)
+    take_bytes(alloc, source, tail, &page)
 }
 
-// Compares what a session gives in an order, without that order, with the input from an offset on.
-fn compare_session(
+// Compares what a session gives in an order, without that order, with what comes next of the input.
+fn take_session<S: Source>(
     alloc: Global,
+    source: &mut S,
+    tail: &mut Tail,
     session: Session,
     order: &Order,
-    input: &[u8],
-    at: usize,
-) -> Result<usize, CompareErr>
-    requires order { IsOrder session.acts order.now }
-    requires at { at ≤ length input.now }
-    ensures same { IfOk result (StandAt input.now at (bytes_after_order session order.now)) }
-    ensures differs { IfErr result
-        (DiffersFrom input.now at (bytes_after_order session order.now)) }
+) -> Result<(), CompareErr>
+    requires { IsOrder session.acts order.now }
+    ensures stays { StaysIn (S.left source.old) (S.left source.new) tail.old tail.new }
+    ensures same { OnOk result (ComeNext (S.left source.old) tail.old tail.new
+        (bytes_after_order session order.now)) }
+    ensures stops { IfErr result (StopsBy (S.faults source.old) (S.faults source.new) tail.new
+        (ComeOthers (S.left source.old) tail.old (bytes_after_order session order.now))) }
+    ensures never_falls { S.faults source.old ≤ S.faults source.new }
 {
     let (geometry, acts) = session.into_parts();
     let room = acts.len();
     let acts = in_order(alloc, geometry.fields.queues, acts.into_vec(), order)?;
     let mut drive = Solo::new(alloc, geometry, room)?;
-    let at = compare_acts(alloc, &mut drive, acts, input, at)?;
-    compare_drive(alloc, &drive, input, at)
+    take_replies(alloc, source, tail, &mut drive, acts)?;
+    take_drive(alloc, source, tail, &drive)
 }
 
-// Compares what a session gives in an order, without that order, with all of the input from an
-// offset on.
-fn compare_rest(
+// Compares what a session gives in an order, without that order, with the rest of the input.
+fn take_rest<S: Source>(
     alloc: Global,
+    source: &mut S,
+    tail: &mut Tail,
     session: Session,
     order: &Order,
-    input: &[u8],
-    at: usize,
 ) -> Result<(), CompareErr>
-    requires order { IsOrder session.acts order.now }
-    requires at { at ≤ length input.now }
-    ensures same { OnOk result (drop at input.now ≡ bytes_after_order session order.now) }
-    ensures differs { IfErr result
-        (IsDifference input.now at (bytes_after_order session order.now)) }
+    requires { IsOrder session.acts order.now }
+    ensures stays { StaysIn (S.left source.old) (S.left source.new) tail.old tail.new }
+    ensures same { OnOk result (ComeNext (S.left source.old) tail.old tail.new
+        (bytes_after_order session order.now)) }
+    ensures all { OnOk result (tail.new.held ≡ []) }
+    ensures end { OnOk result (IsAtEnd (S.left source.new)) }
+    ensures short { OnOk result (tail.new.at ≤ 2 ^ 29) }
+    ensures stops { IfErr result (StopsBy (S.faults source.old) (S.faults source.new) tail.new
+        (ComeOtherwise (S.left source.old) tail.old (bytes_after_order session order.now))) }
+    ensures never_falls { S.faults source.old ≤ S.faults source.new }
 {
-    let end = compare_session(alloc, session, order, input, at)?;
-    if end < input.len() {
-        return Err(CompareErr::Differs { offset: end as u64 });
+    take_session(alloc, source, tail, session, order)?;
+    tail.fill(alloc, source, 1)?;
+    if !tail.held().is_empty() {
+        return Err(CompareErr::Differs { offset: tail.at() });
     }
     Ok(())
 }
 
-/// Whether the bytes after a session are its result in the order that they name: then that is said.
-pub fn check(alloc: Global, input: &[u8]) -> Result<Bytes, Status>
-    requires { length input.now ≤ 2 ^ 29 }
-    ensures { Makes Task.Check input.now result }
+// The order of a session's acts that comes next of the input, which is taken.
+fn take_order<S: Source>(
+    alloc: Global,
+    source: &mut S,
+    tail: &mut Tail,
+    session: &Session,
+) -> Result<Order, Status>
+    ensures stays { StaysIn (S.left source.old) (S.left source.new) tail.old tail.new }
+    ensures session { IsSession session.now }
+    ensures order { IfOk result (IsOrder session.now.acts) }
+    ensures named { IfOk result (λ order. ComeNext (S.left source.old) tail.old tail.new
+        (order_bytes order)) }
+    ensures stops { IfErr result (Answers (S.faults source.old) (S.faults source.new)
+        (CallsFrom (S.left source.old) tail.old session.now)) }
+    ensures never_falls { S.faults source.old ≤ S.faults source.new }
 {
-    let (session, from) = read_front(alloc, input)?;
-    let order = read_order(alloc, input, from, &session)?;
-    let at = from as usize + order_len(&order);
-    compare_rest(alloc, session, &order, input, at)?;
-    Ok(Bytes::of(alloc, SAME)?)
+    tail.fill(alloc, source, order_len(session.acts().len()))?;
+    let order = read_order_after(alloc, tail.held(), tail.at(), session)?;
+    tail.skip(order_len(order.len()));
+    Ok(order)
+}
+
+// Holds the rest of the input against what a session gives in the order that comes next.
+fn check_rest<S: Source>(
+    alloc: Global,
+    source: &mut S,
+    tail: &mut Tail,
+    session: Session,
+) -> Result<(), Status>
+    ensures stays { StaysIn (S.left source.old) (S.left source.new) tail.old tail.new }
+    ensures same { OnOk result (IsConfirmedBy (S.left source.old) (S.left source.new)
+        tail.old tail.new session) }
+    ensures stops { IfErr result (Answers (S.faults source.old) (S.faults source.new)
+        (CallsFrom (S.left source.old) tail.old session)) }
+    ensures never_falls { S.faults source.old ≤ S.faults source.new }
+{
+    let order = take_order(alloc, source, tail, &session)?;
+    take_rest(alloc, source, tail, session, &order)?;
+    Ok(())
+}
+
+/// Whether what comes after the session that a source gives is its result in the order that it
+/// names: then that is said. Neither is held as a whole.
+pub fn check_from<S: Source>(alloc: Global, source: &mut S) -> Result<Bytes, Status>
+    ensures { GivesOutput the_task.Check (S.left source.old) (S.left source.new)
+        (S.faults source.old) (S.faults source.new) result }
+{
+    let (session, mut tail) = begun_from(alloc, source)?;
+    match check_rest(alloc, source, &mut tail, session) {
+        Ok(()) => Ok(Bytes::of(alloc, SAME)?),
+        Err(status) => {
+            // The rest may still be too long, or unreadable, which comes first.
+            tail.drain(alloc, source)?;
+            Err(status)
+        }
+    }
 }

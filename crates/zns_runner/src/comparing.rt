@@ -7,39 +7,24 @@ ghost use Rattle.zns_runner.specs.Differences.{StandAt, DiffersFrom};
 
 use byteorder::{ByteOrder, LittleEndian};
 use cqe_codec::{Cqe, write};
-use zns_io::NoMemory;
 use zone_model::Reply;
 
-/// Why an input was not found to be what was made.
+/// The two differ first, or one of them ends, at an offset of the input.
 #[derive(Clone, Copy, Debug, PartialEq, Eq)]
-pub enum CompareErr {
-    NoMemory,
-
-    /// The two differ first, or one of them ends, at an offset of the input.
-    Differs { offset: u64 },
-}
-
-impl From<NoMemory> for CompareErr {
-    ghost use Rattle.zns_runner.specs.declared.comparing.CompareErr.TheVariants as compare_err;
-    ghost use Rattle.std.specs.Prelude.{◌≡◌};
-
-    ghost from_gives = { λ _ e. e ≡ compare_err.NoMemory };
-
-    fn from(_error: NoMemory) -> CompareErr {
-        CompareErr::NoMemory
-    }
+pub struct Difference {
+    pub offset: usize,
 }
 
 /// The offset after bytes that stand at an offset of the input.
-pub fn compare(input: &[u8], at: usize, made: &[u8]) -> Result<usize, CompareErr>
+pub fn compare(input: &[u8], at: usize, made: &[u8]) -> Result<usize, Difference>
     requires { at ≤ length input.now }
     ensures same { IfOk result (StandAt input.now at made.now) }
-    ensures differs { IfErr result (DiffersFrom input.now at made.now) }
+    ensures differs { IfErr result (λ d. DiffersFrom input.now at made.now d.offset) }
 {
     let mut at = at;
     for byte in made {
         if at >= input.len() || input[at] != *byte {
-            return Err(CompareErr::Differs { offset: at as u64 });
+            return Err(Difference { offset: at });
         }
         at += 1;
     }
@@ -47,10 +32,10 @@ pub fn compare(input: &[u8], at: usize, made: &[u8]) -> Result<usize, CompareErr
 }
 
 // The same for a number of two bytes.
-fn compare_u16(input: &[u8], at: usize, number: u16) -> Result<usize, CompareErr>
+fn compare_u16(input: &[u8], at: usize, number: u16) -> Result<usize, Difference>
     requires { at ≤ length input.now }
     ensures same { IfOk result (StandAt input.now at (little_bytes 2 number)) }
-    ensures differs { IfErr result (DiffersFrom input.now at (little_bytes 2 number)) }
+    ensures differs { IfErr result (λ d. DiffersFrom input.now at (little_bytes 2 number) d.offset) }
 {
     let mut made = [0; 2];
     LittleEndian::write_u16(&mut made, number);
@@ -58,10 +43,10 @@ fn compare_u16(input: &[u8], at: usize, number: u16) -> Result<usize, CompareErr
 }
 
 // The same for a number of four bytes.
-fn compare_u32(input: &[u8], at: usize, number: u32) -> Result<usize, CompareErr>
+fn compare_u32(input: &[u8], at: usize, number: u32) -> Result<usize, Difference>
     requires { at ≤ length input.now }
     ensures same { IfOk result (StandAt input.now at (little_bytes 4 number)) }
-    ensures differs { IfErr result (DiffersFrom input.now at (little_bytes 4 number)) }
+    ensures differs { IfErr result (λ d. DiffersFrom input.now at (little_bytes 4 number) d.offset) }
 {
     let mut made = [0; 4];
     LittleEndian::write_u32(&mut made, number);
@@ -69,11 +54,11 @@ fn compare_u32(input: &[u8], at: usize, number: u32) -> Result<usize, CompareErr
 }
 
 // The same for entries, in 16 bytes each.
-fn compare_entries(input: &[u8], at: usize, entries: &[Cqe]) -> Result<usize, CompareErr>
+fn compare_entries(input: &[u8], at: usize, entries: &[Cqe]) -> Result<usize, Difference>
     requires { at ≤ length input.now }
     ensures same { IfOk result (StandAt input.now at (flat_map entry_bytes entries.now)) }
     ensures differs { IfErr result
-        (DiffersFrom input.now at (flat_map entry_bytes entries.now)) }
+        (λ d. DiffersFrom input.now at (flat_map entry_bytes entries.now) d.offset) }
 {
     let mut at = at;
     for entry in entries {
@@ -83,11 +68,11 @@ fn compare_entries(input: &[u8], at: usize, entries: &[Cqe]) -> Result<usize, Co
 }
 
 /// The same for a reply: its entries and what it read, each with its number before it.
-pub fn compare_reply(input: &[u8], at: usize, reply: &Reply) -> Result<usize, CompareErr>
+pub fn compare_reply(input: &[u8], at: usize, reply: &Reply) -> Result<usize, Difference>
     requires at { at ≤ length input.now }
     requires short { IsShort reply.now }
     ensures same { IfOk result (StandAt input.now at (part_of reply.now)) }
-    ensures differs { IfErr result (DiffersFrom input.now at (part_of reply.now)) }
+    ensures differs { IfErr result (λ d. DiffersFrom input.now at (part_of reply.now) d.offset) }
 {
     let entries = reply.entries.as_slice();
     let read = reply.read.as_slice();

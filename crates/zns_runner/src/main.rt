@@ -5,6 +5,7 @@
 #![tactic(auto)]
 
 mod checking;
+mod compare_err;
 mod comparing;
 mod edge;
 mod generating;
@@ -16,6 +17,7 @@ mod side_by_side;
 mod status;
 mod streaming;
 mod summing;
+mod tail;
 mod task;
 #[cfg(test)]
 mod tests;

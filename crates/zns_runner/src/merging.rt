@@ -1,6 +1,6 @@
-ghost use Rattle.std.specs.Prelude.{◌≡◌, ◌<◌, ◌++◌, ◌∷◌, [], IfOk, OnOk, All, length};
+ghost use Rattle.std.specs.Prelude.{◌≡◌, ◌<◌, ◌++◌, ◌∷◌, [], true, IfOk, OnOk, All, length};
 ghost use Rattle.zone_model.specs.declared.act.Act.{Act};
-ghost use Rattle.zone_model.specs.Sessions.{IsOrder, merged};
+ghost use Rattle.zone_model.specs.Sessions.{IsOrder, merged, own_order};
 ghost use Rattle.zns_runner.specs.Queues.{AreQueues};
 
 use session_file::Order;
@@ -79,6 +79,21 @@ fn queues_of(alloc: Global, count: u16, acts: Vec<Act>) -> Result<Vec<Queue>, No
     Ok(queues)
 }
 
+// Whether an order is the one in which acts stand.
+fn is_own(acts: &[Act], order: &Order) -> bool
+    ensures { result ≡ true → order.now ≡ own_order acts.now }
+{
+    if acts.len() != order.len() as usize {
+        return false;
+    }
+    for number in 0..order.len() {
+        if acts[number as usize].queue != order.queue(number) {
+            return false;
+        }
+    }
+    true
+}
+
 /// The acts of so many queues in an order: at each place the next act of the queue that it names.
 pub fn in_order(
     alloc: Global,
@@ -90,6 +105,9 @@ pub fn in_order(
     requires order { IsOrder acts.items order.now }
     ensures { IfOk result (λ mixed. mixed.items ≡ merged acts.items order.now) }
 {
+    if is_own(&acts, order) {
+        return Ok(acts);
+    }
     let mut queues = queues_of(alloc, count, acts)?;
     let mut mixed = Vec::new(alloc);
     for number in 0..order.len() {

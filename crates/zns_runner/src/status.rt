@@ -2,11 +2,12 @@ ghost use Rattle.std.specs.Prelude.{◌≡◌, IfOk};
 ghost use Rattle.zns_runner.specs.Numbers.{number_of};
 ghost use Rattle.zns_runner.specs.Lines.{line_of};
 
-use crate::comparing::CompareErr;
+use crate::compare_err::CompareErr;
+use crate::top::TOO_LONG;
 use session_file::{FileErr, Reason, Which};
 use std::alloc::Global;
 use std::fmt;
-use zns_io::{Bytes, NoMemory};
+use zns_io::{Bytes, NoMemory, ReadErr};
 
 /// How a run of the program ended.
 #[derive(Clone, Copy, Debug, PartialEq, Eq)]
@@ -63,15 +64,32 @@ impl From<FileErr> for Status {
     }
 }
 
+impl From<ReadErr> for Status {
+    ghost use Rattle.std.specs.Prelude.{◌≡◌};
+    ghost use Rattle.zns_runner.specs.Making.{status_of_reading};
+
+    ghost from_gives = { λ e s. s ≡ status_of_reading e };
+
+    fn from(error: ReadErr) -> Status {
+        match error {
+            ReadErr::NoMemory => Status::NoMemory,
+            ReadErr::Failed => Status::ReadFault,
+            ReadErr::Over => TOO_LONG,
+        }
+    }
+}
+
 impl From<CompareErr> for Status {
     ghost use Rattle.std.specs.Prelude.{◌≡◌};
-    ghost use Rattle.zns_runner.specs.Making.{status_of_difference};
+    ghost use Rattle.zns_runner.specs.Making.{status_of_comparison};
 
-    ghost from_gives = { λ e s. s ≡ status_of_difference e };
+    ghost from_gives = { λ e s. s ≡ status_of_comparison e };
 
     fn from(error: CompareErr) -> Status {
         match error {
             CompareErr::NoMemory => Status::NoMemory,
+            CompareErr::Failed => Status::ReadFault,
+            CompareErr::Over => TOO_LONG,
             CompareErr::Differs { offset } => Status::Differs { offset },
         }
     }

@@ -1,17 +1,19 @@
-ghost use Rattle.std.specs.Prelude.{◌≤◌, ◌^◌, ◌++◌, ◌≡◌, ℕ, List, Option, length, IfOk};
+ghost use Rattle.std.specs.Prelude.{◌≤◌, ◌^◌, ◌++◌, ◌≡◌, ℕ, List, Option, length, IfOk, IfErr};
 ghost use Rattle.std.specs.Io.KnownBytes.{Consumes};
 ghost use Rattle.zns_runner.specs.declared.task.Task.{Task};
-ghost use Rattle.zns_runner.specs.Tasks.{TakesSession};
-ghost use Rattle.zns_runner.specs.Making.{GivesInput, GivesSession, GivesOutput};
+ghost use Rattle.zns_runner.specs.Tasks.{MakesSession};
+ghost use Rattle.zns_runner.specs.Making.{GivesInput, GivesSession, GivesOutput, EndsBefore};
+ghost use Rattle.zns_runner.specs.Answers.{IsBegun};
 
 use crate::serving::serve;
 use crate::showing::show;
 use crate::status::Status;
+use crate::tail::Tail;
 use crate::task::Task;
-use crate::top::{GREATEST_INPUT, TOO_LONG};
-use session_file::{FeedErr, Given, Session, read, read_from};
+use crate::top::GREATEST_INPUT;
+use session_file::{Feed, FeedErr, First, Given, Session, begin_from, read, read_from, read_front};
 use std::alloc::Global;
-use zns_io::{Bytes, NoMemory, ReadErr, Source, read_all};
+use zns_io::{Bytes, NoMemory, Source, read_all};
 
 // Bytes, and others after them.
 fn joined(front: Bytes, rest: &[u8]) -> Result<Bytes, NoMemory>
@@ -22,21 +24,18 @@ fn joined(front: Bytes, rest: &[u8]) -> Result<Bytes, NoMemory>
     Ok(Bytes::from_vec(all))
 }
 
-// The input whose front came already: this front, and all that a source still gives.
-fn input_after<S: Source>(alloc: Global, front: Bytes, source: &mut S) -> Result<Bytes, Status>
+/// The input whose front came already: this front, and all that a source still gives.
+pub fn input_after<S: Source>(alloc: Global, front: Bytes, source: &mut S) -> Result<Bytes, Status>
     requires { length front ≤ 2 ^ 29 }
-    ensures { (t : Task) (first : Option (List ℕ)) → TakesSession t
+    ensures input { (t : Task) (first : Option (List ℕ)) → ¬ (MakesSession t)
         → Consumes first (S.left source.old) front
         → GivesInput t first (S.left source.new)
         (S.faults source.old) (S.faults source.new) result }
+    ensures never_falls { S.faults source.old ≤ S.faults source.new }
 {
     let limit = GREATEST_INPUT - front.as_slice().len() as u64;
-    match read_all(alloc, source, limit) {
-        Ok(rest) => Ok(joined(front, rest.as_slice())?),
-        Err(ReadErr::NoMemory) => Err(Status::NoMemory),
-        Err(ReadErr::Failed) => Err(Status::ReadFault),
-        Err(ReadErr::Over) => Err(TOO_LONG),
-    }
+    let rest = read_all(alloc, source, limit)?;
+    Ok(joined(front, rest.as_slice())?)
 }
 
 // The session that an input is whose front came already.
@@ -79,4 +78,40 @@ pub fn text_from<S: Source>(alloc: Global, source: &mut S) -> Result<Bytes, Stat
 {
     let session = session_from(alloc, source)?;
     Ok(show(alloc, &session)?)
+}
+
+// The session that an input begins with whose front came already, and the rest of the input.
+fn begun_after<S: Source>(
+    alloc: Global,
+    front: Bytes,
+    source: &mut S,
+) -> Result<(Session, Tail), Status>
+    requires { length front ≤ 2 ^ 29 }
+    ensures begun { (first : Option (List ℕ)) → Consumes first (S.left source.old) front
+        → IfOk result (λ r. IsBegun first (S.left source.new) r.0 r.1) }
+    ensures ends { (first : Option (List ℕ)) → Consumes first (S.left source.old) front
+        → IfErr result (EndsBefore Task.Check first (S.left source.new)
+        (S.faults source.old) (S.faults source.new)) }
+    ensures never_falls { S.faults source.old ≤ S.faults source.new }
+{
+    let input = input_after(alloc, front, source)?;
+    let (session, at) = read_front(alloc, input.as_slice())?;
+    let mut rest = Feed::from_vec(input.into_vec());
+    rest.skip(at as usize);
+    Ok((session, Tail::new(rest, at)))
+}
+
+/// The session that a source begins with, and the rest of the input.
+pub fn begun_from<S: Source>(alloc: Global, source: &mut S) -> Result<(Session, Tail), Status>
+    ensures begun { IfOk result (λ r. IsBegun (S.left source.old) (S.left source.new) r.0 r.1) }
+    ensures ends { IfErr result (EndsBefore Task.Check (S.left source.old) (S.left source.new)
+        (S.faults source.old) (S.faults source.new)) }
+    ensures never_falls { S.faults source.old ≤ S.faults source.new }
+{
+    match begin_from(alloc, source) {
+        Ok(First::Session(begun)) => Ok((begun.session, Tail::new(begun.rest, begun.len))),
+        Ok(First::Other(front)) => begun_after(alloc, front, source),
+        Err(FeedErr::NoMemory) => Err(Status::NoMemory),
+        Err(FeedErr::Failed) => Err(Status::ReadFault),
+    }
 }

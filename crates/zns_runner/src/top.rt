@@ -1,18 +1,18 @@
-ghost use Rattle.std.specs.Prelude.{◌≡◌, ◌↔◌, ◌≤◌, ◌^◌, true, [], None, length, is_ok};
-ghost use Rattle.zns_runner.specs.Tasks.{IsPlain, TakesSession, MakesSession, AskToMake, task_named, if_plain};
+ghost use Rattle.std.specs.Prelude.{◌≡◌, ◌↔◌, ◌≤◌, ◌^◌, [], None, length};
+ghost use Rattle.zns_runner.specs.Tasks.{IsPlain, MakesSession, AskToMake, task_named, if_plain};
 ghost use Rattle.zns_runner.specs.Outcomes.{moment, Means, IsPlainComplete, GoesByCount};
-ghost use Rattle.zns_runner.specs.Making.{Makes, MakesByCount, GivesInput, GivesOutput, EndsBy};
+ghost use Rattle.zns_runner.specs.Making.{Makes, MakesByCount, GivesOutput, EndsBy};
 
-use crate::checking::check;
+use crate::checking::check_from;
 use crate::generating::generate;
 use crate::status::Status;
-use crate::streaming::{one_from, text_from};
+use crate::streaming::{input_after, one_from, text_from};
 use crate::summing::summarize;
 use crate::task::{Task, plain_task_of};
 use crate::word::Word;
 use session_file::Which;
 use std::alloc::Global;
-use zns_io::{Bytes, ReadErr, Sink, Source, read_all, write_all};
+use zns_io::{Bytes, Sink, Source, write_all};
 
 /// No input is longer.
 pub const GREATEST_INPUT: u64 = 1 << 29;
@@ -50,37 +50,13 @@ fn made_summary(alloc: Global, number: u64, count: u64) -> Result<Bytes, Status>
     Ok(summarize(alloc, session)?)
 }
 
-// What a task makes of its input, where that is no session alone.
-fn output_for(alloc: Global, task: Task, input: &[u8]) -> Result<Bytes, Status>
-    requires other { ¬ (TakesSession task) }
-    requires short { length input.now ≤ 2 ^ 29 }
-    ensures makes { Makes task input.now result }
-    ensures by_count { MakesByCount task result }
-{
-    match task {
-        Task::One | Task::Run | Task::Show => unreachable!(),
-        Task::Check => check(alloc, input),
-        Task::Host => scripted(alloc, input),
-        Task::Gen { number, count } => made_summary(alloc, number, count),
-    }
-}
-
-/// The input of a task: all that a source gives, or no bytes where the task reads nothing.
-pub fn input_for<S: Source>(alloc: Global, task: Task, source: &mut S) -> Result<Bytes, Status>
-    ensures input { GivesInput task (S.left source.old) (S.left source.new)
+// What a new drive answers to the script that a source gives.
+fn scripted_from<S: Source>(alloc: Global, source: &mut S) -> Result<Bytes, Status>
+    ensures { GivesOutput Task.Host (S.left source.old) (S.left source.new)
         (S.faults source.old) (S.faults source.new) result }
-    ensures gen_reads_nothing { MakesSession task → source.new ≡ source.old }
-    ensures gen_goes_on { MakesSession task → is_ok result ≡ true }
 {
-    if let Task::Gen { .. } = task {
-        return Ok(Bytes::empty(alloc));
-    }
-    match read_all(alloc, source, GREATEST_INPUT) {
-        Ok(input) => Ok(input),
-        Err(ReadErr::NoMemory) => Err(Status::NoMemory),
-        Err(ReadErr::Failed) => Err(Status::ReadFault),
-        Err(ReadErr::Over) => Err(TOO_LONG),
-    }
+    let input = input_after(alloc, Bytes::empty(alloc), source)?;
+    scripted(alloc, input.as_slice())
 }
 
 // What a task makes of what a source gives.
@@ -93,11 +69,11 @@ fn output_of<S: Source>(alloc: Global, task: Task, source: &mut S) -> Result<Byt
 {
     match task {
         Task::One => one_from(alloc, source),
+        Task::Run => unreachable!(),
+        Task::Check => check_from(alloc, source),
         Task::Show => text_from(alloc, source),
-        task => match input_for(alloc, task, source) {
-            Ok(input) => output_for(alloc, task, input.as_slice()),
-            Err(status) => Err(status),
-        },
+        Task::Host => scripted_from(alloc, source),
+        Task::Gen { number, count } => made_summary(alloc, number, count),
     }
 }
 

@@ -18,9 +18,9 @@ returns-in_err-at-clause-differs c =
     let i = c.loop-entry.entry-index in
     let d = c.entry-item.result in
     let made : c.write.result ≡ entry_bytes (get_or c.args.entries.now i d) = c.write.ensures.bytes ∙ ap entry_bytes c.entry-item.is in
-    let whole : DiffersFrom c.args.input.now c.args.at (flat_map entry_bytes c.args.entries.now) c.in_err-at.field-0.0 =
-    item_differs entry_bytes c.args.input.now c.args.entries.now c.args.at c.loop-entry.at i d c.in_err-at.field-0.0 c.loop-entry-test.true c.loop-entry.invariant
-    (differs_same c.args.input.now c.loop-entry.at c.write.result (entry_bytes (get_or c.args.entries.now i d)) c.in_err-at.field-0.0 made c.in_err-at.ensures.differs) in
+    let whole : DiffersFrom c.args.input.now c.args.at (flat_map entry_bytes c.args.entries.now) c.in_err-at.field-0.0.offset =
+    item_differs entry_bytes c.args.input.now c.args.entries.now c.args.at c.loop-entry.at i d c.in_err-at.field-0.0.offset c.loop-entry-test.true c.loop-entry.invariant
+    (differs_same c.args.input.now c.loop-entry.at c.write.result (entry_bytes (get_or c.args.entries.now i d)) c.in_err-at.field-0.0.offset made c.in_err-at.ensures.differs) in
     rw (p.1, p.2) whole
 
 pub loop-entry-preserved : goal.loop-entry-preserved

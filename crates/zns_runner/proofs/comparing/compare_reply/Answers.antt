@@ -16,13 +16,13 @@ returns-in_err-at-2-clause-differs c =
     let entries = c.as_slice-entries.result.now in
     let read = c.as_slice-read.result.now in
     let same : reply_part entries read ≡ part_of c.args.reply.now = ap (λ es. reply_part es read) c.as_slice-entries.ensures.value ∙ ap (reply_part c.args.reply.now.entries.items) c.as_slice-read.ensures in
-    let two : DiffersFrom c.args.input.now c.args.at (little_bytes 2 (length entries) ++ flat_map entry_bytes entries) c.in_err-at-2.field-0.0 =
-    differs_later c.args.input.now c.args.at c.in_ok-at.at (little_bytes 2 (length entries)) (flat_map entry_bytes entries) c.in_err-at-2.field-0.0 c.in_ok-at.ensures.same c.in_err-at-2.ensures.differs in
-    let three : DiffersFrom c.args.input.now c.args.at (little_bytes 2 (length entries) ++ flat_map entry_bytes entries ++ little_bytes 4 (length read)) c.in_err-at-2.field-0.0 =
-    differs_sooner c.args.input.now c.args.at (little_bytes 2 (length entries) ++ flat_map entry_bytes entries) (little_bytes 4 (length read)) c.in_err-at-2.field-0.0 two in
-    let whole : DiffersFrom c.args.input.now c.args.at (part_of c.args.reply.now) c.in_err-at-2.field-0.0 =
-    differs_same c.args.input.now c.args.at (reply_part entries read) (part_of c.args.reply.now) c.in_err-at-2.field-0.0 same
-    (differs_sooner c.args.input.now c.args.at (little_bytes 2 (length entries) ++ flat_map entry_bytes entries ++ little_bytes 4 (length read)) read c.in_err-at-2.field-0.0 three) in
+    let two : DiffersFrom c.args.input.now c.args.at (little_bytes 2 (length entries) ++ flat_map entry_bytes entries) c.in_err-at-2.field-0.0.offset =
+    differs_later c.args.input.now c.args.at c.in_ok-at.at (little_bytes 2 (length entries)) (flat_map entry_bytes entries) c.in_err-at-2.field-0.0.offset c.in_ok-at.ensures.same c.in_err-at-2.ensures.differs in
+    let three : DiffersFrom c.args.input.now c.args.at (little_bytes 2 (length entries) ++ flat_map entry_bytes entries ++ little_bytes 4 (length read)) c.in_err-at-2.field-0.0.offset =
+    differs_sooner c.args.input.now c.args.at (little_bytes 2 (length entries) ++ flat_map entry_bytes entries) (little_bytes 4 (length read)) c.in_err-at-2.field-0.0.offset two in
+    let whole : DiffersFrom c.args.input.now c.args.at (part_of c.args.reply.now) c.in_err-at-2.field-0.0.offset =
+    differs_same c.args.input.now c.args.at (reply_part entries read) (part_of c.args.reply.now) c.in_err-at-2.field-0.0.offset same
+    (differs_sooner c.args.input.now c.args.at (little_bytes 2 (length entries) ++ flat_map entry_bytes entries ++ little_bytes 4 (length read)) read c.in_err-at-2.field-0.0.offset three) in
     rw (p.1, p.2) whole
 
 pub returns-in_err-at-3-clause-differs : goal.returns-in_err-at-3-clause-differs
@@ -33,11 +33,11 @@ returns-in_err-at-3-clause-differs c =
     let same : reply_part entries read ≡ part_of c.args.reply.now = ap (λ es. reply_part es read) c.as_slice-entries.ensures.value ∙ ap (reply_part c.args.reply.now.entries.items) c.as_slice-read.ensures in
     let front : StandAt c.args.input.now c.args.at (little_bytes 2 (length entries) ++ flat_map entry_bytes entries) c.in_ok-at-2.at =
     stand_after c.args.input.now c.args.at c.in_ok-at.at c.in_ok-at-2.at (little_bytes 2 (length entries)) (flat_map entry_bytes entries) c.in_ok-at.ensures.same c.in_ok-at-2.ensures.same in
-    let three : DiffersFrom c.args.input.now c.args.at (little_bytes 2 (length entries) ++ flat_map entry_bytes entries ++ little_bytes 4 (length read)) c.in_err-at-3.field-0.0 =
-    differs_later c.args.input.now c.args.at c.in_ok-at-2.at (little_bytes 2 (length entries) ++ flat_map entry_bytes entries) (little_bytes 4 (length read)) c.in_err-at-3.field-0.0 front c.in_err-at-3.ensures.differs in
-    let whole : DiffersFrom c.args.input.now c.args.at (part_of c.args.reply.now) c.in_err-at-3.field-0.0 =
-    differs_same c.args.input.now c.args.at (reply_part entries read) (part_of c.args.reply.now) c.in_err-at-3.field-0.0 same
-    (differs_sooner c.args.input.now c.args.at (little_bytes 2 (length entries) ++ flat_map entry_bytes entries ++ little_bytes 4 (length read)) read c.in_err-at-3.field-0.0 three) in
+    let three : DiffersFrom c.args.input.now c.args.at (little_bytes 2 (length entries) ++ flat_map entry_bytes entries ++ little_bytes 4 (length read)) c.in_err-at-3.field-0.0.offset =
+    differs_later c.args.input.now c.args.at c.in_ok-at-2.at (little_bytes 2 (length entries) ++ flat_map entry_bytes entries) (little_bytes 4 (length read)) c.in_err-at-3.field-0.0.offset front c.in_err-at-3.ensures.differs in
+    let whole : DiffersFrom c.args.input.now c.args.at (part_of c.args.reply.now) c.in_err-at-3.field-0.0.offset =
+    differs_same c.args.input.now c.args.at (reply_part entries read) (part_of c.args.reply.now) c.in_err-at-3.field-0.0.offset same
+    (differs_sooner c.args.input.now c.args.at (little_bytes 2 (length entries) ++ flat_map entry_bytes entries ++ little_bytes 4 (length read)) read c.in_err-at-3.field-0.0.offset three) in
     rw (p.1, p.2) whole
 
 pub returns-clause-differs : goal.returns-clause-differs
@@ -49,5 +49,5 @@ returns-clause-differs c =
     stand_after c.args.input.now c.args.at c.in_ok-at.at c.in_ok-at-2.at (little_bytes 2 (length entries)) (flat_map entry_bytes entries) c.in_ok-at.ensures.same c.in_ok-at-2.ensures.same in
     let numbers : StandAt c.args.input.now c.args.at (little_bytes 2 (length entries) ++ flat_map entry_bytes entries ++ little_bytes 4 (length read)) c.in_ok-at-3.at =
     stand_after c.args.input.now c.args.at c.in_ok-at-2.at c.in_ok-at-3.at (little_bytes 2 (length entries) ++ flat_map entry_bytes entries) (little_bytes 4 (length read)) front c.in_ok-at-3.ensures.same in
-    let P : List ℕ → Type 0 = λ bytes. IfErr c.compare.result (DiffersFrom c.args.input.now c.args.at bytes) in
+    let P : List ℕ → Type 0 = λ bytes. IfErr c.compare.result (λ d. DiffersFrom c.args.input.now c.args.at bytes d.offset) in
     subst P same (answer_differs c.compare.result c.args.input.now c.args.at c.in_ok-at-3.at (little_bytes 2 (length entries) ++ flat_map entry_bytes entries ++ little_bytes 4 (length read)) read numbers c.compare.ensures.differs)

@@ -1,7 +1,14 @@
 use Rattle.std.proofs.Common.{◌≡◌, ◌<◌, [], length, get_or, ap, sym, ◌∙◌, arith}
 use Rattle.std.proofs.lemmas.List.{get_or_read}
 use Rattle.zns_runner.proofs.Mixing.{mixes-none, mixes-next, mixes-more, mixes-all, order-few}
+use Rattle.zone_model.specs.Sessions.{merged, own_order}
+use Rattle.zns_runner.proofs.Orders.{merged-own_order}
 use Rattle.zns_runner.proofs.merging.in_order.Goals as goal
+
+pub returns-then-is_own : goal.returns-then-is_own
+returns-then-is_own c =
+    let own : c.args.order.now ≡ own_order c.args.acts.items = c.is_own.ensures c.if-is_own.true ∙ ap own_order c.deref.ensures.value in
+    sym (ap (merged c.args.acts.items) own ∙ merged-own_order c.args.acts.items)
 
 pub loop-number-init : goal.loop-number-init
 loop-number-init c = rw c.new-mixed.ensures.items (mixes-none c.args.count c.args.acts.items c.args.order.now c.in_ok-queues.queues.items c.in_ok-queues.ensures c.requires.order)
