@@ -8,7 +8,7 @@ use Rattle.zns_types.specs.declared.fields.GeometryFields.{GeometryFields}
 use Rattle.zns_types.specs.Rows.{first_holding}
 use Rattle.sqe_codec.specs.Commands.{reply_len}
 use Rattle.zns_io.specs.Reading.{ReadsAll, ReadsFrontUpTo}
-use Rattle.zns_io.proofs.ReadLemmas.{ReadsFront-consumed}
+use Rattle.zns_io.proofs.ReadLemmas.{Consumes-then, ReadsFront-consumed}
 use Rattle.zone_model.specs.declared.act.Act.{Act}
 use Rattle.zone_model.specs.Places.{command_of}
 use Rattle.zone_model.specs.Sessions.{Recorded, IsSession, IsAct, sum_of, header_bytes, record_bytes, sent_bytes, spelling}
@@ -34,6 +34,11 @@ goes_on-same left held after same = λ first front came. subst (λ (b : List ℕ
 pub goes_on-behind : (left now : Option (List ℕ)) (before held after : List ℕ) → GoesOn left now held after → GoesOn left now (before ++ held) (before ++ after)
 goes_on-behind left now before held after more = λ first front came.
     subst (Consumes first now) (append_assoc front before after) (more first (front ++ before) (subst (Consumes first left) (sym (append_assoc front before held)) came))
+
+-- it gave some bytes after those that were held
+pub goes_on-more : (left now : Option (List ℕ)) (held more after : List ℕ) → Consumes left now more → after ≡ held ++ more → GoesOn left now held after
+goes_on-more left now held more after read is = λ first front came.
+    subst (Consumes first now) (append_assoc front held more ∙ ap (λ (b : List ℕ). front ++ b) (sym is)) (Consumes-then first left now (front ++ held) more came read)
 
 -- one went on after the other
 pub goes_on-then : (left mid now : Option (List ℕ)) (held between after : List ℕ) → GoesOn left mid held between → GoesOn mid now between after → GoesOn left now held after

@@ -103,12 +103,18 @@ impl Feed {
         ensures never_falls { S.faults source.old ≤ S.faults source.new }
     {
         self.settle(alloc)?;
-        self.bytes.reserve(PIECE)?;
-        let mut piece = [0; PIECE];
-        let room = most.min(PIECE);
-        let count = source.read(&mut piece[..room])?;
-        self.bytes.extend_from_slice(&piece[..count]).unwrap();
-        Ok(count > 0)
+        let held = self.bytes.len();
+        self.bytes.resize(held + most.min(PIECE), 0)?;
+        match source.read(&mut self.bytes[held..]) {
+            Ok(count) => {
+                self.bytes.truncate(held + count);
+                Ok(count > 0)
+            }
+            Err(failed) => {
+                self.bytes.truncate(held);
+                Err(failed.into())
+            }
+        }
     }
 
     /// Reads on until so many bytes are held, or the source ends, and says whether so many are.

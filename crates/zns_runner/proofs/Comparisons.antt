@@ -1,10 +1,11 @@
 -- How an input is compared with bytes, one part after the other.
-use Rattle.std.proofs.Common.{◌≡◌, ◌≢◌, ℕ, suc, ◌+◌, ◌<◌, ◌≤◌, Bool, true, false, cond, List, [], ◌∷◌, ◌++◌, length, take, drop, get_or, Some, None, refl, sym, ap, subst, ◌∙◌, ⊎_elim, arith}
+use Rattle.std.proofs.Common.{◌≡◌, ◌≢◌, ℕ, suc, ◌+◌, ◌-◌, ◌<◌, ◌≤◌, Bool, true, false, cond, List, [], ◌∷◌, ◌++◌, length, take, drop, get_or, Some, None, refl, sym, ap, subst, ◌∙◌, ⊎_elim, arith}
 use Rattle.std.proofs.lemmas.Bool.{eq-eqb, cases_lt}
-use Rattle.std.proofs.lemmas.Bool.Decides.{nat_tests}
-use Rattle.std.proofs.lemmas.List.{append-nil, append_assoc, length-append, drop_all, drop_more, take_more, take-append-drop, take_all}
+use Rattle.std.proofs.lemmas.Bool.Decides.{nat_tests, Decides-eqb}
+use Rattle.std.proofs.lemmas.Slice.Eq.{starts_is}
+use Rattle.std.proofs.lemmas.List.{append-nil, append_assoc, length-append, length-drop, drop-drop, drop_all, drop_more, take_more, take-append-drop, take_all}
 use Rattle.std.specs.Prelude.{◌==◌, Result, Ok, Err, IfOk, IfErr}
-use Rattle.std.specs.List.{flat_map}
+use Rattle.std.specs.List.{flat_map, starts_with}
 use Rattle.zns_runner.specs.declared.comparing.Difference.{Difference}
 use Rattle.zns_runner.specs.Differences.{first_difference, StandAt, DiffersFrom, IsDifference}
 
@@ -151,6 +152,18 @@ held_differs at held bytes more offset differs ends after =
 
 pub bytes_stand : (input xs : List ℕ) (from at i : ℕ) → length xs ≤ i → StandAt input from (take i xs) at → StandAt input from xs at
 bytes_stand input xs from at i all stand = stand_same input from at (take i xs) xs (take_all i xs all) stand
+
+-- what the input begins with from there on
+pub begins_stand : (input : List ℕ) (at : ℕ) (bytes : List ℕ) (says : Bool) → at ≤ length input → says ≡ starts_with (λ x y. x == y) (take (length input - at) (drop at input)) bytes → says ≡ true → StandAt input at bytes (at + length bytes)
+begins_stand input at bytes says within is so =
+    let rest : take (length input - at) (drop at input) ≡ drop at input = take_all (length input - at) (drop at input) (omega (arith, length-drop at input)) in
+    let front : drop at input ≡ bytes ++ drop (length bytes) (drop at input) =
+    (starts_is Decides-eqb (drop at input) bytes says (is ∙ ap (λ (s : List ℕ). starts_with (λ x y. x == y) s bytes) rest)).0 so in
+    record {
+      there = front ∙ ap (λ (b : List ℕ). bytes ++ b) (drop-drop (length bytes) at input);
+      end = omega arith;
+      within = omega (arith, within, ap length front, length-append bytes (drop (length bytes) (drop at input)), length-drop at input);
+    }
 
 pub byte_stands : (input made : List ℕ) (from at i : ℕ) → at < length input → i < length made → get_or input at 0 ≡ get_or made i 0 → StandAt input from (take i made) at → StandAt input from (take (i + 1) made) (at + 1)
 byte_stands input made from at i within few same stand =

@@ -21,6 +21,10 @@ pub fn compare(input: &[u8], at: usize, made: &[u8]) -> Result<usize, Difference
     ensures same { IfOk result (StandAt input.now at made.now) }
     ensures differs { IfErr result (λ d. DiffersFrom input.now at made.now d.offset) }
 {
+    // Slices compare faster than one byte after the other, and most are the same.
+    if input[at..].starts_with(made) {
+        return Ok(at + made.len());
+    }
     let mut at = at;
     for byte in made {
         if at >= input.len() || input[at] != *byte {

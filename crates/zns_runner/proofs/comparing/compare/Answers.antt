@@ -1,5 +1,5 @@
 use Rattle.std.proofs.Common.{◌≢◌, ◌<◌, length, get_or, arith}
-use Rattle.zns_runner.proofs.Comparisons.{nothing_stands, byte_stands, byte_differs, bytes_stand}
+use Rattle.zns_runner.proofs.Comparisons.{nothing_stands, byte_stands, byte_differs, bytes_stand, begins_stand}
 use Rattle.zns_runner.proofs.comparing.compare.Goals.{then-at-input-via-then-at-input, then-at-input-via-else-at-input+then-input-at}
 use Rattle.zns_runner.proofs.comparing.compare.Goals as goal
 
@@ -17,3 +17,6 @@ loop-byte-preserved c = byte_stands c.args.input.now c.args.made.now c.args.at c
 
 pub returns-clause-same : goal.returns-clause-same
 returns-clause-same c = bytes_stand c.args.input.now c.args.made.now c.args.at c.loop-byte.at c.loop-byte.byte-index c.loop-byte-test.false c.loop-byte.invariant
+
+pub returns-then-starts_with-clause-same : goal.returns-then-starts_with-clause-same
+returns-then-starts_with-clause-same c = begins_stand c.args.input.now c.args.at c.args.made.now c.starts_with.result c.requires c.starts_with.ensures.value c.if-starts_with.true
