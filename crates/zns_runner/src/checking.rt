@@ -18,6 +18,7 @@ use crate::tail::Tail;
 use session_file::{Order, Session, read_order_after};
 use solo_drive::Solo;
 use std::alloc::Global;
+use std::mem::forget;
 use zns_io::{Bytes, Source};
 use zone_model::{Act, Reply};
 
@@ -174,7 +175,10 @@ fn take_session<S: Source>(
     let acts = in_order(alloc, geometry.fields.queues, acts.into_vec(), order)?;
     let mut drive = Solo::new(alloc, geometry, room)?;
     take_replies(alloc, source, tail, &mut drive, acts)?;
-    take_drive(alloc, source, tail, &drive)
+    let same = take_drive(alloc, source, tail, &drive);
+    // The program ends soon, and gives back all memory at once.
+    forget(drive);
+    same
 }
 
 // Compares what a session gives in an order, without that order, with the rest of the input.

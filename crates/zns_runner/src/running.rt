@@ -5,6 +5,7 @@ use crate::serving::result_of;
 use queue_controller::{Gate, run_session};
 use session_file::Session;
 use std::alloc::Global;
+use std::mem::forget;
 use std::sync::Wait;
 use std::thread::Threads;
 use zns_io::{Bytes, NoMemory};
@@ -20,5 +21,8 @@ pub fn run<R: Threads + Wait + Sync, G: Gate + Sync>(
     ensures { IfOk result (IsRun session) }
 {
     let outcome = run_session(rt, alloc, session, gate)?;
-    result_of(alloc, &outcome.drive, &outcome.replies)
+    let result = result_of(alloc, &outcome.drive, &outcome.replies);
+    // The program ends soon, and gives back all memory at once.
+    forget(outcome);
+    result
 }

@@ -10,6 +10,7 @@ use session_file::{ResultFile, Session, write_result};
 use solo_drive::Solo;
 use sqe_codec::reply_len;
 use std::alloc::Global;
+use std::mem::forget;
 use zns_io::{Bytes, NoMemory};
 use zone_model::{Act, Replies, Reply};
 
@@ -137,5 +138,7 @@ pub fn serve(alloc: Global, session: Session) -> Result<Bytes, NoMemory>
     serve_acts(alloc, &mut drive, acts.into_vec(), &mut file)?;
     let descriptors = descriptors_of(alloc, &drive)?;
     let page = page_of(alloc, &drive)?;
+    // The program ends soon, and gives back all memory at once.
+    forget(drive);
     file.finish(&descriptors, &page)
 }

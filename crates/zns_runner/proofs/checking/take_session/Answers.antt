@@ -51,7 +51,7 @@ returns-in_err-take_replies-clause-stops g c =
 
 pub returns-clause-stays : goal.returns-clause-stays
 returns-clause-stays g c =
-    stays_then (g.S.Source.left c.args.source.now) (g.S.Source.left c.take_replies.new.source) (g.S.Source.left c.take_drive.new.source) c.args.tail.now c.take_replies.new.tail c.take_drive.new.tail c.in_ok-take_replies.ensures.stays c.take_drive.ensures.stays
+    stays_then (g.S.Source.left c.args.source.now) (g.S.Source.left c.take_replies.new.source) (g.S.Source.left c.take_drive-same.new.source) c.args.tail.now c.take_replies.new.tail c.take_drive-same.new.tail c.in_ok-take_replies.ensures.stays c.take_drive-same.ensures.stays
 
 pub returns-clause-same : goal.returns-clause-same
 returns-clause-same g c =
@@ -63,7 +63,7 @@ returns-clause-same g c =
       stays = c.in_ok-take_replies.ensures.geometry;
       served = c.in_ok-take_replies.ensures.acts;
     } in
-    both_come c.take_drive.result (g.S.Source.left c.args.source.now) (g.S.Source.left c.take_replies.new.source) c.args.tail.now c.take_replies.new.tail c.take_drive.new.tail (replies_bytes c.in_ok-drive.drive.geometry [] c.in_ok-acts.acts.items) (drive_bytes drive.geometry drive.acts) (bytes_after_order c.args.session c.args.order.now) (after_replies c.args.session c.args.order.now c.in_ok-drive.drive.geometry drive.geometry c.in_ok-acts.acts.items drive.acts has) c.in_ok-take_replies.ensures.stays c.in_ok-take_replies.ensures.same c.take_drive.ensures.same
+    both_come c.take_drive-same.result (g.S.Source.left c.args.source.now) (g.S.Source.left c.take_replies.new.source) c.args.tail.now c.take_replies.new.tail c.take_drive-same.new.tail (replies_bytes c.in_ok-drive.drive.geometry [] c.in_ok-acts.acts.items) (drive_bytes drive.geometry drive.acts) (bytes_after_order c.args.session c.args.order.now) (after_replies c.args.session c.args.order.now c.in_ok-drive.drive.geometry drive.geometry c.in_ok-acts.acts.items drive.acts has) c.in_ok-take_replies.ensures.stays c.in_ok-take_replies.ensures.same c.take_drive-same.ensures.same
 
 pub returns-clause-stops : goal.returns-clause-stops
 returns-clause-stops g c =
@@ -75,4 +75,4 @@ returns-clause-stops g c =
       stays = c.in_ok-take_replies.ensures.geometry;
       served = c.in_ok-take_replies.ensures.acts;
     } in
-    both_stop c.take_drive.result (g.S.Source.left c.args.source.now) (g.S.Source.left c.take_replies.new.source) c.args.tail.now c.take_replies.new.tail c.take_drive.new.tail (g.S.Source.faults c.args.source.now) (g.S.Source.faults c.take_replies.new.source) (g.S.Source.faults c.take_drive.new.source) (replies_bytes c.in_ok-drive.drive.geometry [] c.in_ok-acts.acts.items) (drive_bytes drive.geometry drive.acts) (bytes_after_order c.args.session c.args.order.now) (after_replies c.args.session c.args.order.now c.in_ok-drive.drive.geometry drive.geometry c.in_ok-acts.acts.items drive.acts has) c.in_ok-take_replies.ensures.never_falls c.in_ok-take_replies.ensures.stays c.in_ok-take_replies.ensures.same c.take_drive.ensures.stops
+    both_stop c.take_drive-same.result (g.S.Source.left c.args.source.now) (g.S.Source.left c.take_replies.new.source) c.args.tail.now c.take_replies.new.tail c.take_drive-same.new.tail (g.S.Source.faults c.args.source.now) (g.S.Source.faults c.take_replies.new.source) (g.S.Source.faults c.take_drive-same.new.source) (replies_bytes c.in_ok-drive.drive.geometry [] c.in_ok-acts.acts.items) (drive_bytes drive.geometry drive.acts) (bytes_after_order c.args.session c.args.order.now) (after_replies c.args.session c.args.order.now c.in_ok-drive.drive.geometry drive.geometry c.in_ok-acts.acts.items drive.acts has) c.in_ok-take_replies.ensures.never_falls c.in_ok-take_replies.ensures.stays c.in_ok-take_replies.ensures.same c.take_drive-same.ensures.stops

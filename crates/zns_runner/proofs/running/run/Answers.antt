@@ -7,8 +7,8 @@ use Rattle.zns_runner.proofs.RunReplies.{are_replies, is_run}
 use Rattle.zns_runner.proofs.Results.{answer_has}
 use Rattle.zns_runner.proofs.running.run.Goals as goal
 
-pub result_of-requires : goal.result_of-requires
-result_of-requires g c =
+pub result_of-result-requires : goal.result_of-result-requires
+result_of-result-requires g c =
     let o = c.in_ok-outcome.outcome in
     let runs = c.in_ok-outcome.ensures in
     are_replies o.drive.geometry o.drive.acts o.replies.replies
@@ -18,4 +18,4 @@ pub returns : goal.returns
 returns g c =
     let o = c.in_ok-outcome.outcome in
     let bytes = result_bytes o.drive.geometry (own_order o.drive.acts) o.drive.acts in
-    answer_has c.result_of.result bytes (IsRun c.args.session) c.result_of.ensures (is_run c.args.session o c.in_ok-outcome.ensures)
+    answer_has c.result_of-result.result bytes (IsRun c.args.session) c.result_of-result.ensures (is_run c.args.session o c.in_ok-outcome.ensures)
