@@ -1,4 +1,4 @@
--- Each deed makes of a zone's cell the cell of the deeds with this one.
+-- Each deed turns a zone's cell into the cell of its deeds followed by this one.
 use Rattle.std.proofs.Common.{◌≡◌, ℕ, zero, suc, ◌+◌, ◌*◌, ◌-◌, ◌/◌, ◌<◌, ◌≤◌, max, Bool, true, false, cond, List, ◌∷◌, Option, None, length, map, get_or, refl, sym, ap, ◌∙◌, arith}
 use Rattle.std.specs.Prelude.{◌==◌, ◌&&◌, ◌||◌, replicate}
 use Rattle.std.specs.List.{range_with_len}
@@ -55,7 +55,7 @@ live_before g ds e a on keeps = by_way (way_of g ds e a)
     by_way (commits last is passes) = active_live _ (window_active g ds passes.window)
     by_way (gets_window is passes) = open_live (state_of g ds) passes.leads
 
--- blocks of a zone that nothing is written to
+-- the blocks of a zone to which nothing is written
 same_blocks : (g : GeometryFields) (ds : List Done) (d : Done) → is_reset d.deed ≡ false → blocks_of d.deed ≡ 0 → map (block_of g ds) (range_with_len 0 g.capacity) ≡ map (block_of g (d ∷ ds)) (range_with_len 0 g.capacity)
 same_blocks g ds d keeps none = map-range_same (block_of g ds) (block_of g (d ∷ ds)) 0 g.capacity (λ b low high. sym (block-kept g d ds b keeps none))
 
@@ -184,7 +184,7 @@ reset-follows g z ds payload is a =
 
 -- ---- writes and commits
 
--- the blocks of so many bytes
+-- the number of blocks that some bytes fill
 whole_blocks : (len blocks n : ℕ) → 1 ≤ len → n ≡ blocks * len → n / len ≡ blocks
 whole_blocks len blocks n some e = let positive : 0 < len = omega arith in rw e (mul-div_cancel blocks positive)
 
@@ -263,7 +263,7 @@ append-follows g z ds blocks payload is a len =
 
 -- ---- any deed
 
--- A deed that its zone admitted makes of the zone's cell the cell of the deeds with this one.
+-- A deed that its zone admitted turns the zone's cell into the cell of its deeds followed by this one.
 follows : (g : GeometryFields) (z : ℕ) (ds : List Done) (e : Deed) (payload : List ℕ) → IsGeometry g → AreAdmitted g (done e payload ∷ ds) → IsWhole g (done e payload)
     → after_deed g e payload (cell_of g z ds) ≡ cell_of g z (done e payload ∷ ds)
 follows g z ds (deed.Write from blocks) payload is a whole =

@@ -1,4 +1,4 @@
--- What a deed makes of a zone's marks and states.
+-- The effect of a deed on a zone's marks and states.
 use Rattle.std.proofs.Common.{◌≡◌, ℕ, Bool, true, false, List, ◌∷◌, refl, sym, ◌∙◌}
 use Rattle.std.specs.Prelude.{◌&&◌, ◌||◌, Result, Ok, Err}
 use Rattle.std.proofs.lemmas.Bool.{and_right}

@@ -1,4 +1,4 @@
--- The cell of a zone of a drive is one of the drive's.
+-- The cell of a zone of a drive is a cell of that drive.
 use Rattle.std.proofs.Common.{refl}
 use Rattle.std.proofs.lemmas.List.FromFn.{length-map-range_with_len}
 use Rattle.zone_history.specs.Histories.{block_of}

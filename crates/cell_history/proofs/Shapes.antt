@@ -1,4 +1,4 @@
--- The cell after a deed that is no reset, by its parts.
+-- The cell after a deed other than a reset, by its parts.
 use Rattle.std.proofs.Common.{◌≡◌, ℕ, Bool, true, false, List, ◌∷◌, map, sym, ap, ◌∙◌, inl, inr}
 use Rattle.std.specs.Prelude.{◌&&◌, ◌||◌}
 use Rattle.std.specs.List.{range_with_len}
@@ -30,7 +30,7 @@ pub record Shaped (g : GeometryFields) (z : ℕ) (ds : List Done) (d : Done) (c 
   pub reset_recommended : c.reset_recommended ≡ (((had ds 3 && is_writable (state_of g ds)) || is_excursion 3 d.deed) && is_writable c.state)
   pub blocks : c.blocks ≡ map (block_of g (d ∷ ds)) (range_with_len 0 g.capacity)
 
--- an active zone was active, if it had something since its last reset
+-- an active zone was active before, if it had something since its last reset
 was_active : (s : State) (something : Bool) → (is_empty s ≡ true → something ≡ false) → is_live s ≡ true → something ≡ true → is_active s ≡ true
 was_active s something bare live e = elim (cases_Bool (is_active s)) [
   | inl active ↦ active
@@ -59,7 +59,7 @@ same_cell c e zone len state pointer window finished finish reset blocks = λ i.
   blocks = blocks i;
 }
 
--- Such a cell is that of the deeds with this one.
+-- Such a cell is that of the deeds followed by this one.
 pub shaped : (g : GeometryFields) (z : ℕ) (ds : List Done) (d : Done) (c : Cell) → Stands g ds → Shaped g z ds d c → c ≡ cell_of g z (d ∷ ds)
 unfolding cell_of
 shaped g z ds d c st s =

@@ -1,4 +1,4 @@
--- The cell of a zone to which these deeds were done.
+-- The cell of a zone after its deeds.
 use Rattle.std.specs.Prelude.{◌≡◌, ℕ, ◌*◌, ◌<◌, true, ◌&&◌, List, ◌∷◌, length, map}
 use Rattle.std.specs.List.{range_with_len}
 use Rattle.zns_types.specs.declared.fields.GeometryFields.{GeometryFields}
@@ -10,7 +10,7 @@ use Rattle.zone_history.specs.Admitted.{is_write, AreAdmitted}
 use Rattle.zone_cell.specs.Cells.{Cell, IsOf}
 use Rattle.zone_cell.specs.Deeds.{after_deed}
 
--- what a zone's deeds have made of it, as its cell keeps it
+-- the cell of a zone after these deeds
 unfoldable pub cell_of : GeometryFields → ℕ → List Done → Cell
 cell_of g z ds = record {
   zone = z;
@@ -28,10 +28,10 @@ cell_of g z ds = record {
 abbrev pub IsWhole : GeometryFields → Done → Type 0
 IsWhole g d = is_write d.deed ≡ true → length d.payload ≡ blocks_of d.deed * block_len g
 
--- A deed makes of a zone's cell the cell of the deeds with this one.
+-- A deed turns a zone's cell into the cell of its deeds followed by this one.
 abbrev pub CellFollows : Type 0
 CellFollows = (g : GeometryFields) (z : ℕ) (ds : List Done) (d : Done) → IsGeometry g → AreAdmitted g (d ∷ ds) → IsWhole g d → after_deed g d.deed d.payload (cell_of g z ds) ≡ cell_of g z (d ∷ ds)
 
--- The cell of a zone of the drive is one of the drive's.
+-- The cell of a zone of the drive is a cell of that drive.
 abbrev pub CellIsOfDrive : Type 0
 CellIsOfDrive = (g : GeometryFields) (z : ℕ) (ds : List Done) → IsGeometry g → z < g.zones → AreAdmitted g ds → IsOf g (cell_of g z ds)

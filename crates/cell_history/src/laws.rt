@@ -1,6 +1,6 @@
 ghost use Rattle.cell_history.specs.Cells.{CellFollows, CellIsOfDrive};
 
-/// A deed makes of a zone's cell the cell of its history with that deed.
+/// A deed turns a zone's cell into the cell of its history followed by that deed.
 pub fn cell_follows()
     ensures { CellFollows }
 {}

@@ -1,4 +1,4 @@
-//! A zone's cell is what its history makes of it.
+//! A zone's cell follows from its history.
 #![tactic(auto)]
 
 mod laws;

@@ -27,7 +27,7 @@ impl Model for Events {
 }
 
 impl Events {
-    /// Events of a drive that starts: not enabled, and nothing waits.
+    /// The events of a new drive: not enabled, and nothing waits.
     pub fn new() -> Events
         ensures { result ≡ at_start }
     {
@@ -39,8 +39,8 @@ impl Events {
         }
     }
 
-    /// Enables events, or no longer: bit 27 of the feature Asynchronous Event Configuration. An
-    /// event that is pending stays so.
+    /// Enables events, or disables them: bit 27 of the feature Asynchronous Event Configuration. An
+    /// event that is pending stays pending.
     pub fn enable(&mut self, on: bool)
         ensures marks { self.new ≡ with_enabled on self.old }
         ensures sound { IsSound self.new }
@@ -56,8 +56,8 @@ impl Events {
     }
 
     /// Takes an Asynchronous Event Request by its command identifier. An event that is pending
-    /// completes it, and further events are then masked. Else it waits after the others, unless
-    /// four wait, when nothing changes.
+    /// completes it, and further events are then masked. Otherwise it waits after the others,
+    /// unless four wait already; then nothing changes.
     pub fn wait(&mut self, cid: u16) -> Waited
         ensures answer { result ≡ told_to self.old }
         ensures fired { (result ≡ Waited.Fired) ↔ (self.old.pending ≡ true) }
@@ -78,9 +78,9 @@ impl Events {
         }
     }
 
-    /// Notices an excursion that succeeded. Where events are enabled and not masked, it completes
-    /// the oldest request that waits, by its command identifier, and masks further events; where
-    /// none waits, an event is pending.
+    /// Notices an excursion that succeeded. If events are enabled and not masked, it completes the
+    /// oldest request that waits, returns its command identifier, and masks further events; if none
+    /// waits, an event is pending.
     pub fn fire(&mut self) -> Option<u16>
         ensures answer { result ≡ fired_by self.old }
         ensures oldest { IfSome result (λ cid. self.old.waiting ≡ cid ∷ self.new.waiting) }

@@ -6,7 +6,7 @@ ghost use Rattle.changed_log.specs.Logs.{marked_zones, first_blocks};
 use byteorder::{ByteOrder, LittleEndian};
 use zns_types::Geometry;
 
-/// How many zones are marked.
+/// The number of zones that are marked.
 pub fn count(marks: &[bool]) -> usize
     ensures number { result ≡ length (marked_zones marks.now) }
     ensures most { result ≤ length marks.now }
@@ -29,7 +29,7 @@ pub fn put_number(out: &mut [u8], number: u16)
     LittleEndian::write_u16(out, number);
 }
 
-// Writes a block in 8 bytes, and leaves all others.
+// Writes a block in 8 bytes, and doesn't change the others.
 fn put_block(out: &mut [u8], at: usize, block: u64)
     requires { at + 8 ≤ length out.old }
     ensures { out.new ≡ take at out.old ++ (little_bytes 8 block ++ drop (at + 8) out.old) }
@@ -37,8 +37,8 @@ fn put_block(out: &mut [u8], at: usize, block: u64)
     out[at..at + 8].copy_from_slice(&block.to_le_bytes());
 }
 
-/// Writes from byte 8 on the first block of each marked zone, rising, 8 bytes each, and leaves the
-/// bytes before and after them.
+/// Writes from byte 8 on the first block of each marked zone, in rising order, 8 bytes each. The
+/// bytes before and after them don't change.
 pub fn list_firsts(marks: &[bool], g: &Geometry, out: &mut [u8])
     requires few { length marks.now ≤ 4096 }
     requires zones { All (λ z. z < g.now.fields.zones) (marked_zones marks.now) }

@@ -26,7 +26,7 @@ impl Model for ChangedLog {
 }
 
 impl ChangedLog {
-    /// A log of no zone.
+    /// An empty log.
     pub fn new() -> ChangedLog
         ensures { result ≡ [] }
     {
@@ -62,7 +62,7 @@ impl ChangedLog {
         }
     }
 
-    /// Forgets all zones, as a read does that clears the log.
+    /// Forgets all zones, as a read that clears the log does.
     pub fn clear(&mut self)
         ensures { self.new ≡ [] }
     {

@@ -1,4 +1,4 @@
--- The book of a drive to which nothing was done, and of one that has served one more act.
+-- The book of a new drive, and of one that has served one more act.
 use Rattle.std.proofs.Common.{◌≡◌, ℕ, ◌+◌, ◌-◌, Bool, false, List, [], ◌∷◌, ◌++◌, refl, sym, ap, ◌∙◌, arith}
 use Rattle.std.specs.Prelude.{count_by, replicate}
 use Rattle.zns_types.specs.declared.fields.GeometryFields.{GeometryFields}
@@ -65,14 +65,14 @@ no_acts-book g room =
 
 -- ---- one more act
 
--- all but the journal is what a history with one more act makes of it
+-- all but the journal is that of the history with one more act
 pub record GoesOn (g : GeometryFields) (h : List Place) (a : Act) (b : Book) : Type 0 where
   pub limits : b.limits ≡ counts g (and_then g h a)
   pub log : b.log ≡ changed g (and_then g h a)
   pub events : b.events ≡ marks_of (and_then g h a)
   pub tallies : b.tallies ≡ tallies_of g (and_then g h a)
 
--- With the act in its journal, it is the book of the acts and that one.
+-- With the act in its journal, it is the book of these acts and this one.
 pub book-step : (g : GeometryFields) (acts : List Act) (a : Act) (spare : ℕ) (b : Book) → GoesOn g (answered g acts) a b → b.journal ≡ record { acts = acts ++ a ∷ []; spare = spare } → b ≡ book_at g (acts ++ a ∷ []) spare
 book-step g acts a spare b on journal =
     same_book b (book_of g (and_then g (answered g acts) a) (acts ++ a ∷ []) spare) (record { limits = on.limits; log = on.log; events = on.events; tallies = on.tallies; journal = journal })
@@ -80,7 +80,7 @@ book-step g acts a spare b on journal =
 
 -- ---- posting an act that was done
 
--- A book has been brought on by an act, but for its tallies and its journal.
+-- A book is up to date with an act, except for its tallies and its journal.
 pub record IsReady (g : GeometryFields) (a : Act) (old mid : Book) : Type 0 where
   pub limits : mid.limits ≡ counts g (and_then g (answered g old.journal.acts) a)
   pub log : mid.log ≡ changed g (and_then g (answered g old.journal.acts) a)
@@ -96,7 +96,7 @@ ready-tallies g a old mid stands ready = ready.tallies ∙ ap (λ (b : Book). b.
 pub ready-stands : (g : GeometryFields) (a : Act) (old mid : Book) → BookStands g old → IsReady g a old mid → TalliesStand g mid
 ready-stands g a old mid stands ready = rw ready.journal (ready-tallies g a old mid stands ready)
 
--- what posting an act changes in a book, beside its tallies
+-- what posting an act changes in a book, besides its tallies
 pub record IsPosted (a : Act) (mid new : Book) : Type 0 where
   pub limits : new.limits ≡ mid.limits
   pub log : new.log ≡ mid.log

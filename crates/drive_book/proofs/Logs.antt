@@ -78,7 +78,7 @@ keeps_all (cmd.Excursion nsid slba kind) e = absurd cc
 keeps_all (cmd.GetLog nsid page bytes offset retain) e = e
 keeps_all _ e = refl
 
--- any other act leaves it
+-- any other act doesn't change it
 pub other-changed : (g : GeometryFields) (h : List Place) (a : Act) → changes_log (command_of a) ≡ false → changed g (and_then g h a) ≡ changed g h
 unfolding changed
 other-changed g h a calm = elim (cases_Bool (is_success (status g h a))) [
@@ -98,7 +98,7 @@ no_acts-changed g = filter-none (has_changed g []) 0 g.zones (λ z. refl)
 
 -- ---- any act
 
--- what a command that succeeds makes of the log
+-- the log after a command that succeeds
 abbrev pub log_by : GeometryFields → Cmd → List ℕ → List ℕ
 log_by g (cmd.GetLog nsid page bytes offset retain) zones = cond retain zones []
 log_by g (cmd.Excursion nsid slba kind) zones = with_zone (zone_of g slba) zones

@@ -1,5 +1,5 @@
--- The marks follow the definitions over histories: what each call makes of the marks of a history are the marks of the
--- history with the act that it serves.
+-- The marks follow the definitions over histories: each call turns the marks of a history into those of the history with the act that it
+-- serves.
 use Rattle.std.proofs.Common.{◌≡◌, ℕ, ◌<◌, ◌≤◌, Bool, true, false, not, cond, List, [], ◌∷◌, ◌++◌, length, Option, Some, None, is_some, refl, ap, ◌∙◌, inl, inr, arith, length-append}
 use Rattle.std.specs.Prelude.{◌&&◌, ◌||◌, nat_le, drop, reverse, unwrap_or}
 use Rattle.std.proofs.lemmas.List.{drop-append-le, drop_all}
@@ -24,7 +24,7 @@ use Rattle.drive_book.proofs.Done.{IsDone, done-cleared, done-excursion, done-fi
 
 -- ---- words
 
--- No more requests were answered by excursions than waited for one. It holds of every history of answered acts.
+-- Excursions answered no more requests than waited. It holds of every history of answered acts.
 abbrev pub HasAsked : List Place → Type 0
 HasAsked h = answered_requests h ≤ length (requests h)
 
@@ -46,7 +46,7 @@ changes_marks cmd.Event = true
 changes_marks (cmd.Excursion nsid slba kind) = true
 changes_marks _ = false
 
--- what a command with this number that succeeds makes of the marks
+-- the marks after a command with this identifier that succeeds
 abbrev pub marks_by : ℕ → Cmd → Marks → Marks
 marks_by cid (cmd.GetLog nsid page bytes offset retain) m = cond retain m (after_read m)
 marks_by cid (cmd.SetFeature feature value) m = with_enabled (bit 27 value) m
@@ -60,7 +60,7 @@ marks_by cid _ m = m
 abbrev pub plain : Bool → Bool → Bool → List ℕ → Marks
 plain enabled masked noticed waiting = record { enabled = enabled; masked = masked; pending = not masked && noticed; waiting = waiting }
 
--- after an excursion, by the request that it answered
+-- the marks after an excursion, by the request that it answered
 abbrev pub excursed : Bool → Bool → Bool → List ℕ → Option ℕ → Marks
 excursed enabled masked noticed waiting fired = record {
   enabled = enabled;
@@ -158,7 +158,7 @@ read-marks g h a nsid page bytes offset d =
 
 -- ---- an act that does no more than enable notices
 
--- such a command
+-- a command that does no more than enable notices
 pub record IsCalm (h : List Place) (cid : ℕ) (c : Cmd) : Type 0 where
   pub keeps : reads_and_clears c ≡ false
   pub no_excursion : is_excursion c ≡ false
@@ -260,7 +260,7 @@ after_wait g h a false room none asks asked =
     let same : record (marks_of h) { waiting = waiting h ++ cid_of a.sqe.bytes ∷ [] } ≡ record (marks_of h) { pending = false; waiting = waiting h ++ cid_of a.sqe.bytes ∷ [] } = rw none refl in
     rw (none, room) (waits ∙ same)
 
--- what becomes of the marks
+-- the marks after it
 pub request-marks : (g : GeometryFields) (h : List Place) (a : Act) → command_of a ≡ cmd.Event → HasAsked h → marks_of (and_then g h a) ≡ after_request (cid_of a.sqe.bytes) (marks_of h)
 request-marks g h a asks asked = elim (cases_Bool (pending h)) [
   | inl there ↦
@@ -274,7 +274,7 @@ fires_as true b cid = refl
 fires_as false true cid = refl
 fires_as false false cid = refl
 
--- it is answered at once where it is told of an event
+-- it is answered at once if it is told of an event
 pub request-fires : (g : GeometryFields) (h : List Place) (a : Act) → command_of a ≡ cmd.Event → fires g h a ≡ own_event (cid_of a.sqe.bytes) (told_to (marks_of h))
 unfolding fires
 request-fires g h a asks = rw (request-status g h a asks, asks) (fires_as (pending h) (nat_le 4 (length (waiting h))) (cid_of a.sqe.bytes))
@@ -287,7 +287,7 @@ no_acts-marks = refl
 
 -- ---- any act
 
--- what a command that succeeds makes of the marks
+-- the marks after a command that succeeds
 done-marks : (g : GeometryFields) (h : List Place) (a : Act) (c : Cmd) → IsDone g h a c → HasAsked h → marks_of (and_then g h a) ≡ marks_by (cid_of a.sqe.bytes) c (marks_of h)
 done-marks g h a (cmd.GetLog nsid page bytes offset true) d asked = other-marks g h a (rw d.command refl)
 done-marks g h a (cmd.GetLog nsid page bytes offset false) d asked = read-marks g h a nsid page bytes offset d

@@ -1,4 +1,4 @@
--- What becomes of an act, by its status and its command.
+-- What becomes of an act, from its status and its command.
 use Rattle.std.proofs.Common.{◌≡◌, ℕ, Bool, true, false, cond, eqb, List, length, Option, Some, None, refl, sym, ap, ◌∙◌, subst}
 use Rattle.std.specs.Prelude.{◌&&◌, nat_le, is_none}
 use Rattle.std.proofs.lemmas.Bool.{eqb-true}
@@ -27,7 +27,7 @@ no_event : (c : Cmd) → event_by c None ≡ None
 no_event (cmd.Excursion nsid slba kind) = refl
 no_event _ = refl
 
--- it gives nothing
+-- its result is empty
 pub refused-stands : (g : GeometryFields) (h : List Place) (a : Act) → is_success (status g h a) ≡ false → OutcomeStands g h a (refusal_with (status g h a))
 unfolding dwords_of reply_bytes fires
 refused-stands g h a refused = record {
@@ -49,7 +49,7 @@ same_success s is = by_sct (eqb s.sct 0) refl is
         ap (λ (n : ℕ). record { sct = n; sc = 0 }) (sym (eqb-true s.sct 0 sct)) ∙ ap (λ (n : ℕ). record { sct = s.sct; sc = n }) (sym (eqb-true s.sc 0 sc))
     by_sct false sct sc = absurd cc
 
--- what becomes of a command with this number that succeeds after a history
+-- what becomes of a command with this identifier that succeeds after a history
 abbrev pub outcome_by : GeometryFields → List Place → ℕ → Cmd → Outcome
 outcome_by g h cid c = record {
   code = success;
@@ -92,6 +92,6 @@ by_marks g h a false false there asks code =
     let d : IsDone g h a cmd.Event = record { success = rw code refl; command = asks } in
     subst (λ (b : Bool). OutcomeStands g h a (record told { waits = is_none (cond b (Some (cid_of a.sqe.bytes)) None) })) there (done-stands g h a cmd.Event d)
 
--- it goes by the marks
+-- its outcome depends on the marks
 pub request-stands : (g : GeometryFields) (h : List Place) (a : Act) → command_of a ≡ cmd.Event → OutcomeStands g h a (request_outcome (told_to (marks_of h)))
 request-stands g h a asks = by_marks g h a (pending h) (nat_le 4 (length (waiting h))) refl asks (request-status g h a asks)

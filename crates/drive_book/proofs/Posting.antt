@@ -1,4 +1,4 @@
--- The entries that an act posts, by the tallies of the history before it.
+-- The entries that an act posts, from the tallies of the history before it.
 use Rattle.std.proofs.Common.{◌≡◌, ℕ, ◌+◌, ◌*◌, ◌<◌, Bool, true, false, cond, List, length, Option, Some, None, refl, ap, ◌∙◌, subst, arith, inl, inr}
 use Rattle.std.specs.Prelude.{◌==◌}
 use Rattle.std.proofs.lemmas.Bool.{cases_eq, ne_eqb}
@@ -57,7 +57,7 @@ event-posts g h (cmd.Excursion nsid slba kind) (Some cid) ts counts = rw (counts
 event-posts g h (cmd.Excursion nsid slba kind) None ts counts = refl
 event-posts g h _ fired ts counts = refl
 
--- The entries of an act by the tallies of a history are those that it posts after the history.
+-- The entries of an act, from the tallies of a history, are those that it posts after the history.
 pub posts-entries : (g : GeometryFields) (h : List Place) (a : Act) (o : Outcome) (ts : List Tally) → a.queue < g.queues → ts ≡ tallies_of g h → OutcomeStands g h a o
     → entries_by g a.queue (cid_of a.sqe.bytes) o ts ≡ posted g h a
 unfolding posted

@@ -67,7 +67,7 @@ pub length-answered : (g : GeometryFields) (acts : List Act) → length (answere
 unfolding answered
 length-answered g acts = length-answered_back g (reverse acts) ∙ length-reverse acts
 
--- after so few acts one more can be counted
+-- after fewer than 2^32 acts, one more can be counted
 pub tallies-room : (g : GeometryFields) (acts : List Act) (queue : ℕ) → length acts < 2 ^ 32 → queue < g.queues → HasRoomAt queue (tallies_of g (answered g acts))
 tallies-room g acts queue few lt =
     let h = answered g acts in
@@ -144,7 +144,7 @@ with_act-here queue ts lt = get_or-set_same ts queue _ no_tally lt
 pub with_entry-here : (queue : ℕ) (ts : List Tally) → queue < length ts → tally_at queue (with_entry queue ts) ≡ record { acts = (tally_at queue ts).acts; entries = (tally_at queue ts).entries + 1 }
 with_entry-here queue ts lt = get_or-set_same ts queue _ no_tally lt
 
--- a tally with so many more acts and entries
+-- a tally with this many more acts and entries
 abbrev pub more : ℕ → ℕ → Tally → Tally
 more acts entries t = record { acts = acts + t.acts; entries = entries + t.entries }
 
@@ -190,7 +190,7 @@ tally-step : (g : GeometryFields) (h : List Place) (a : Act) (queue : ℕ) → t
 tally-step g h a queue =
     same_tally _ _ (own_act g h a queue) (entries_on-step queue (answer g h a) h ∙ ap (λ (n : ℕ). n + entries_on queue h) (posted_on-is g h a queue))
 
--- The tallies of a history, after an act and what became of it, are those of the history with the act.
+-- The tallies of a history, after an act is posted, are those of the history with the act.
 pub tallies-step : (g : GeometryFields) (h : List Place) (a : Act) (o : Outcome) (ts : List Tally) → a.queue < g.queues → ts ≡ tallies_of g h → OutcomeStands g h a o → after_post a.queue o ts ≡ tallies_of g (and_then g h a)
 tallies-step g h a o ts lt is stands =
     let len : length ts ≡ g.queues = rw is (tallies-len g h) in

@@ -1,4 +1,4 @@
--- What a drive keeps beside its zones, after a history of acts.
+-- What a drive keeps besides its zones, after a history of acts.
 use Rattle.std.specs.Prelude.{◌≡◌, ℕ, List, map}
 use Rattle.std.specs.List.{range_with_len}
 use Rattle.zns_types.specs.declared.fields.GeometryFields.{GeometryFields}
@@ -12,7 +12,7 @@ use Rattle.changed_log.specs.Marks.{Marks}
 use Rattle.drive_book.specs.declared.tally.Tally.{Tally}
 use Rattle.drive_book.specs.declared.book.Book.{Book}
 
--- what a history makes of a queue's tally
+-- a queue's tally after a history
 abbrev pub tally_of : List Place → ℕ → Tally
 tally_of h queue = record { acts = acts_on queue h; entries = entries_on queue h }
 
@@ -20,7 +20,7 @@ tally_of h queue = record { acts = acts_on queue h; entries = entries_on queue h
 abbrev pub tallies_of : GeometryFields → List Place → List Tally
 tallies_of g h = map (tally_of h) (range_with_len 0 g.queues)
 
--- what a history makes of the marks of events
+-- the marks of events after a history
 abbrev pub marks_of : List Place → Marks
 marks_of h = record { enabled = enabled h; masked = masked h; pending = pending h; waiting = waiting h }
 
@@ -34,11 +34,11 @@ book_of g h acts spare = record {
   journal = record { acts = acts; spare = spare };
 }
 
--- The book of a drive that served acts, and has room for so many more.
+-- The book of a drive that has served these acts, and has room for `spare` more.
 abbrev pub book_at : GeometryFields → List Act → ℕ → Book
 book_at g acts spare = book_of g (answered g acts) acts spare
 
--- The book is what the acts in its journal make of it.
+-- The book is that of the acts in its journal.
 abbrev pub BookStands : GeometryFields → Book → Type 0
 BookStands g b = b ≡ book_at g b.journal.acts b.journal.spare
 

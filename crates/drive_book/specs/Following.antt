@@ -1,4 +1,4 @@
--- How a book goes on with an act.
+-- How a book changes with an act.
 use Rattle.std.specs.Prelude.{◌≡◌, List}
 use Rattle.zns_types.specs.declared.fields.GeometryFields.{GeometryFields}
 use Rattle.zone_model.specs.declared.act.Act.{Act}
@@ -11,10 +11,10 @@ use Rattle.drive_book.specs.declared.book.Book.{Book}
 use Rattle.drive_book.specs.Outcomes.{OutcomeStands}
 use Rattle.drive_book.specs.Books.{tallies_of}
 
--- Where a book has the tallies of a history, the entries of an act are those that it posts there.
+-- If a book has the tallies of a history, the entries of an act are those that it posts there.
 abbrev pub PostsEntries : GeometryFields → Book → Act → Outcome → Posted → Type 0
 PostsEntries g book a o result = (h : List Place) → book.tallies ≡ tallies_of g h → OutcomeStands g h a o → result.entries.items ≡ posted g h a
 
--- A book that has the tallies of a history has, after an act, those of the history with the act.
+-- If a book has the tallies of a history, it has those of the history with the act afterwards.
 abbrev pub KeepsTallies : GeometryFields → Book → Act → Outcome → Book → Type 0
 KeepsTallies g old a o new = (h : List Place) → old.tallies ≡ tallies_of g h → OutcomeStands g h a o → new.tallies ≡ tallies_of g (and_then g h a)

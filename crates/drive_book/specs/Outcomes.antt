@@ -16,7 +16,7 @@ use Rattle.drive_book.specs.declared.outcome.Outcome.{Outcome}
 abbrev pub refusal_with : Status → Outcome
 refusal_with code = record { code = code; dw0 = 0; dw1 = 0; len = 0; event = None; waits = false }
 
--- success, with nothing to give
+-- success, with an empty result
 abbrev pub plain_success : Outcome
 plain_success = refusal_with success
 
@@ -38,7 +38,7 @@ event_by _ fired = None
 abbrev pub event_of : GeometryFields → List Place → Act → Option ℕ
 event_of g h a = event_by (command_of a) (fires g h a)
 
--- It is what becomes of an act after a history.
+-- This is what becomes of an act after a history.
 pub record OutcomeStands (g : GeometryFields) (h : List Place) (a : Act) (o : Outcome) : Type 0 where
   pub code : o.code ≡ status g h a
   pub dw0 : o.dw0 ≡ (dwords_of g h a).dw0

@@ -1,4 +1,4 @@
--- The tallies of queues, and the entries that go by them.
+-- The tallies of queues, and the entries that are made from them.
 use Rattle.std.specs.Prelude.{ℕ, ◌+◌, ◌^◌, ◌<◌, if◌then◌else◌, List, [], ◌∷◌, slice_index_or, slice_set, Option, Some, None}
 use Rattle.zns_types.specs.declared.fields.GeometryFields.{GeometryFields}
 use Rattle.cqe_codec.specs.declared.cqe.Cqe.{Cqe}
@@ -27,7 +27,7 @@ with_act queue ts = slice_set ts queue (record { acts = (tally_at queue ts).acts
 abbrev pub with_entry : ℕ → List Tally → List Tally
 with_entry queue ts = slice_set ts queue (record { acts = (tally_at queue ts).acts; entries = (tally_at queue ts).entries + 1 })
 
--- the next entry of a queue, for the command with this number
+-- the next entry of a queue, for the command with this identifier
 abbrev pub entry_at : GeometryFields → ℕ → ℕ → Outcome → List Tally → Cqe
 entry_at g queue cid o ts = entry g queue (tally_at queue ts).acts (tally_at queue ts).entries cid o.code (record { dw0 = o.dw0; dw1 = o.dw1 })
 
@@ -36,7 +36,7 @@ abbrev pub event_entry_by : GeometryFields → Option ℕ → List Tally → Lis
 event_entry_by g None ts = []
 event_entry_by g (Some cid) ts = entry_at g 0 cid told ts ∷ []
 
--- the entries of one more act of a queue, by what became of it
+-- the entries of one more act of a queue, from what became of it
 abbrev pub entries_by : GeometryFields → ℕ → ℕ → Outcome → List Tally → List Cqe
 entries_by g queue cid o ts =
     if o.waits then []
@@ -47,6 +47,6 @@ abbrev pub with_event : Option ℕ → List Tally → List Tally
 with_event None ts = ts
 with_event (Some cid) ts = with_entry 0 ts
 
--- the tallies after one more act of a queue, by what became of it
+-- the tallies after one more act of a queue, from what became of it
 abbrev pub after_post : ℕ → Outcome → List Tally → List Tally
 after_post queue o ts = if o.waits then with_act queue ts else with_event o.event (with_entry queue (with_act queue ts))

@@ -15,10 +15,10 @@ use zns_types::Geometry;
 use zone_limits::Limits;
 use zone_model::{Act, Journal};
 
-/// What a drive keeps beside its zones.
+/// What a drive keeps besides its zones.
 #[derive(Drop)]
 pub struct Book {
-    /// How many zones are active, are opened, and have a random write area.
+    /// The number of zones that are active, that are opened, and that have a random write area.
     pub limits: Limits,
 
     /// The zones that excursions changed.
@@ -27,7 +27,7 @@ pub struct Book {
     /// The marks of events, and the event requests that wait.
     pub events: Events,
 
-    /// How many acts and entries each queue has had.
+    /// The number of acts and of entries that each queue has had.
     pub tallies: Tallies,
 
     /// The acts that were served.
@@ -35,7 +35,7 @@ pub struct Book {
 }
 
 impl Book {
-    /// The book of a drive to which nothing was done, with room for so many acts.
+    /// The book of a new drive, with room for `room` acts.
     pub fn new(alloc: Global, g: &Geometry, room: u32) -> Result<Book, NoMemory>
         requires room { room ≤ 262144 }
         ensures { IfOk result (λ b. b ≡ book_at g.now.fields [] room) }
@@ -55,7 +55,7 @@ impl Book {
         })
     }
 
-    /// Writes down an act and what became of it, and makes its entries.
+    /// Adds an act to the journal, and makes its entries from what became of it.
     pub fn post(&mut self, g: &Geometry, act: Act, outcome: Outcome) -> Posted
         requires spare { 0 < self.old.journal.spare }
         requires queue { act.queue < g.now.fields.queues }
@@ -79,8 +79,8 @@ impl Book {
         }
     }
 
-    /// Notes that an excursion changed a zone. Where an event of it is to be told, it answers the
-    /// event request that has waited longest, by its command identifier.
+    /// Notes that an excursion changed a zone. If an event of it is to be told, this answers the
+    /// event request that has waited longest, and returns its command identifier.
     pub fn note_excursion(&mut self, zone: u32) -> Option<u16>
         requires zone { zone < 4096 }
         ensures answer { result ≡ fired_by self.old.events }

@@ -1,4 +1,4 @@
-//! What a drive keeps beside its zones: counts, the log of changed zones, marks of events, tallies
+//! What a drive keeps besides its zones: counts, the log of changed zones, marks of events, tallies
 //! of its queues, and the journal.
 #![tactic(auto)]
 

@@ -19,13 +19,13 @@ pub struct Outcome {
     /// The second dword of its result.
     pub dw1: u32,
 
-    /// How many bytes it read.
+    /// The number of bytes that it read.
     pub len: u32,
 
-    /// The event request that an excursion answered, by its command identifier.
+    /// The command identifier of the event request that an excursion answered.
     pub event: Option<u16>,
 
-    /// It is an event request that waits, and gets no entry now.
+    /// Whether it is an event request that waits, and gets no entry now.
     pub waits: bool,
 }
 
@@ -44,7 +44,7 @@ impl Outcome {
         }
     }
 
-    /// A command that succeeds, and gives nothing.
+    /// A command that succeeds, with an empty result.
     pub fn done() -> Outcome
         ensures { result ≡ plain_success }
     {

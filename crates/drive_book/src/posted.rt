@@ -1,7 +1,8 @@
 use arrayvec::ArrayVec;
 use cqe_codec::Cqe;
 
-/// What a command is answered: its completion entries, its own first, and how many bytes it read.
+/// The answer to a command: its completion queue entries, its own first, and the number of bytes
+/// that it read.
 #[derive(Drop)]
 pub struct Posted {
     pub entries: ArrayVec<Cqe, 2>,

@@ -27,7 +27,7 @@ impl Model for Tallies {
 }
 
 impl Tallies {
-    /// The tallies of so many queues, which have had nothing yet.
+    /// The tallies of `queues` queues that have had no act and no entry.
     pub fn new(alloc: Global, queues: u16) -> Result<Tallies, NoMemory>
         ensures { IfOk result (λ t. t ≡ replicate queues no_tally) }
     {
@@ -47,7 +47,7 @@ impl Tallies {
         self.items[queue as usize]
     }
 
-    // One more act of a queue.
+    // Counts one more act of a queue.
     fn add_act(&mut self, queue: u16)
         requires queue { queue < length self.old }
         requires room { (tally_at queue self.old).acts + 1 < 2 ^ 64 }
@@ -56,7 +56,7 @@ impl Tallies {
         self.items[queue as usize].acts += 1;
     }
 
-    // One more entry of a queue, for the command with this number.
+    // Counts one more entry of a queue, and makes it for the command with the identifier `cid`.
     fn add_entry(&mut self, g: &Geometry, queue: u16, cid: u16, outcome: &Outcome) -> Cqe
         requires queue { queue < length self.old }
         requires room { (tally_at queue self.old).entries + 1 < 2 ^ 64 }
@@ -79,8 +79,8 @@ impl Tallies {
         }
     }
 
-    /// The entries of one more act of a queue: its own, unless it waits, and after it that of the
-    /// event request that it answered.
+    /// Counts one more act of a queue, and makes its entries: its own, unless it waits, and then
+    /// that of the event request that it answered.
     pub fn post(
         &mut self,
         g: &Geometry,

@@ -1,4 +1,4 @@
-/// How many acts a queue has had, and how many entries were posted on it.
+/// The number of acts that a queue has had, and of entries that were posted on it.
 #[derive(Clone, Copy, Debug, PartialEq, Eq)]
 pub struct Tally {
     pub acts: u64,

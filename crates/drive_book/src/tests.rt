@@ -42,7 +42,7 @@ fn entry(head: u16, sqid: u16, cid: u16, phase: bool, code: Code) -> Cqe {
     }
 }
 
-// One act of a queue, of which there are two.
+// Posts one act of one of two queues.
 fn post(
     rt: &impl Abort,
     tallies: &mut Tallies,

@@ -1,4 +1,4 @@
--- What holds of a zone where no row of it refuses a deed.
+-- What holds of a zone if none of its rows refuses a deed.
 use Rattle.std.proofs.Common.{◌≡◌, ℕ, ◌+◌, ◌*◌, ◌-◌, ◌%◌, ◌<◌, ◌≤◌, Bool, true, false, cond, [], ◌∷◌, refl, sym, ap, ◌∙◌, arith}
 use Rattle.std.specs.Prelude.{◌==◌, ◌&&◌, ◌||◌, not, is_ok, nat_lt, nat_le}
 use Rattle.std.proofs.lemmas.Bool.{and_parts, or_parts, not-false, not_from_true, eqb-true, ltb-false, leb-true, leb-false}
@@ -87,7 +87,7 @@ commit_passes g zone last e =
       granular = eqb-true _ 0 (not-false _ uneven);
     }
 
--- where the state decides alone
+-- if the state alone decides
 state_leads : (g : GeometryFields) (zone : Zone) (a : Action) (d : Deed) → rows_for g d zone ≡ no_transition a zone.state ∷ [] → Admits g zone d → is_ok (go a zone.state) ≡ true
 state_leads g zone a d is e = not-false _ (none_holds (no_transition a zone.state ∷ []) (ap first_holding (sym is) ∙ e)).0
 

@@ -15,8 +15,8 @@ open_code = 0x03
 abbrev pub commit_code : ℕ
 commit_code = 0x11
 
--- The deed that a Zone Management Send asks for, by the code of its action: an Open may ask for a random write area, and
--- a commit names its last block. (Zoned Namespace Command Set Specification 1.1, 3.4.3.)
+-- The deed that a Zone Management Send asks for, from the code of its action: an Open may ask for a random write area, and a commit names
+-- its last block. (Zoned Namespace Command Set Specification 1.1, 3.4.3.)
 abbrev pub sent_deed : ℕ → Bool → ℕ → Option Deed
 sent_deed code option last =
     if code == 0x01 then Some deed.Close
@@ -32,7 +32,7 @@ abbrev pub aimed_at : ℕ → Option Deed → Option Aim
 aimed_at zone None = None
 aimed_at zone (Some d) = Some (record { zone = zone; deed = d })
 
--- the deed that a command asks for to one zone, and the zone
+-- the deed that a command asks for on one zone, and that zone
 abbrev pub aim_of : GeometryFields → Cmd → Option Aim
 aim_of g (cmd.Write nsid slba blocks) = Some (record { zone = zone_of g slba; deed = deed.Write (offset_of g slba) blocks })
 aim_of g (cmd.Append nsid zslba blocks) = Some (record { zone = zone_of g zslba; deed = deed.Append blocks })
@@ -40,7 +40,7 @@ aim_of g (cmd.Send nsid slba act all option) = if all then None else aimed_at (z
 aim_of g (cmd.Excursion nsid slba kind) = Some (record { zone = zone_of g slba; deed = deed.Excursion kind })
 aim_of g _ = None
 
--- the deed that a command asks for to every zone whose state takes it
+-- the deed that a command asks for on every zone whose state takes it
 abbrev pub sweep_of : Cmd → Option Deed
 sweep_of (cmd.Send nsid slba act all option) = if all then sent_deed act option 0 else None
 sweep_of _ = None

@@ -47,19 +47,19 @@ abbrev pub asks_window : Deed → Bool
 asks_window (deed.Open window) = window
 asks_window _ = false
 
--- how many blocks it writes
+-- the number of blocks that a deed writes
 abbrev pub blocks_of : Deed → ℕ
 blocks_of (deed.Write from blocks) = blocks
 blocks_of (deed.Append blocks) = blocks
 blocks_of _ = 0
 
--- where they begin: an Append's at the pointer
+-- where they begin: for an Append, at the pointer
 abbrev pub start_of : ℕ → Deed → ℕ
 start_of pointer (deed.Write from blocks) = from
 start_of pointer _ = pointer
 
--- What it asks of the pointer of a zone with a random write area: a commit, to cover its last block; a Write, to end at
--- most a window past the pointer.
+-- What a deed asks of the pointer of a zone with a random write area: a commit, to cover its last block; a Write, to end at most a window
+-- past the pointer.
 abbrev pub bound_of : GeometryFields → Deed → ℕ
 bound_of g (deed.Write from blocks) = from + blocks - g.window
 bound_of g (deed.Commit last) = last + 1
@@ -75,12 +75,12 @@ rows_for g (deed.Open window) zone = open_rows g zone window
 rows_for g (deed.Commit last) zone = commit_rows g zone last
 rows_for g d zone = no_transition (action_of d) zone.state ∷ []
 
--- what makes a zone opened that isn't
+-- whether a write or an Open makes a zone in this state opened that wasn't
 abbrev pub opens : State → Bool
 opens s = is_empty s || is_closed s
 
--- What it needs: a write or an Open, an active resource from Empty, and an open one from Empty and Closed; an Open that
--- asks for a random write area, one where the zone has none; a commit, an open resource from Closed; all else, nothing.
+-- What a deed needs. A write or an Open needs an active resource from Empty, and an open one from Empty and Closed. An Open that asks for a
+-- random write area needs one if the zone has none. A commit needs an open resource from Closed. Anything else needs nothing.
 abbrev pub need_for : Deed → Zone → Need
 need_for (deed.Write from blocks) zone = record { active = is_empty zone.state; opened = opens zone.state; window = false }
 need_for (deed.Append blocks) zone = record { active = is_empty zone.state; opened = opens zone.state; window = false }
@@ -88,7 +88,7 @@ need_for (deed.Open window) zone = record { active = is_empty zone.state; opened
 need_for (deed.Commit last) zone = record { active = false; opened = is_closed zone.state; window = false }
 need_for _ zone = no_need
 
--- no row of the zone refuses it
+-- no row of the zone refuses the deed
 abbrev pub Admits : GeometryFields → Zone → Deed → Type 0
 Admits g zone d = first_holding (rows_for g d zone) ≡ None
 
@@ -100,7 +100,7 @@ use_of zone = record { active = is_active zone.state; opened = is_opened zone.st
 abbrev pub closed_use : Need → Need
 closed_use used = record used { opened = false }
 
--- the states that a deed takes which goes to all zones: Zoned Namespace Command Set Specification 1.1, 3.4.3.1
+-- the states that a deed on all zones takes: Zoned Namespace Command Set Specification 1.1, 3.4.3.1
 abbrev pub takes_all : Deed → State → Bool
 takes_all deed.Close = is_opened
 takes_all deed.Finish = is_active

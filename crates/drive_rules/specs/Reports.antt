@@ -28,12 +28,12 @@ bytes_of_all ds = flat_map descriptor_bytes ds
 abbrev pub fitting : ℕ → List Descriptor → List Descriptor
 fitting len ds = take ((len - 64) / 64) ds
 
--- so many bytes of a text and of the zeros after it
+-- the first `len` bytes of a text and the zeros after it
 abbrev pub first_bytes : ℕ → List ℕ → List ℕ
 first_bytes len bytes = take len (bytes ++ replicate len 0)
 
--- A report of so many bytes over these zones: the number of those that match, or with Partial Report of those that
--- are given, and their descriptors. (Zoned Namespace Command Set Specification 1.1, 3.4.2.2.)
+-- A report of `len` bytes over these zones: the number of those that match, or with Partial Report of those that are given, and their
+-- descriptors. (Zoned Namespace Command Set Specification 1.1, 3.4.2.2.)
 abbrev pub report : ℕ → ℕ → Bool → List Descriptor → List ℕ
 report len kind partial ds = first_bytes len (little_bytes 8 number ++ replicate 56 0 ++ bytes_of_all (fitting len matching))
   where

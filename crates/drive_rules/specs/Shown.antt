@@ -6,7 +6,7 @@ use Rattle.zns_types.specs.States.{is_full, is_writable}
 abbrev pub one : Bool → ℕ
 one b = if b then 1 else 0
 
--- all ones, where a pointer means nothing
+-- all ones, for a pointer that means nothing
 abbrev pub no_pointer : ℕ
 no_pointer = 2 ^ 64 - 1
 

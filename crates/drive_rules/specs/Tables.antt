@@ -133,7 +133,7 @@ excursion_front g nsid slba kind =
 abbrev pub unknown_rows : List (Row Status)
 unknown_rows = when true invalid_opcode ∷ []
 
--- the rows of a command that no zone decides, in their order
+-- the rows of a command that don't depend on a zone, in their order
 abbrev pub front_rows : GeometryFields → Cmd → List (Row Status)
 front_rows g (cmd.Flush nsid) = flush_rows nsid
 front_rows g (cmd.Write nsid slba blocks) = write_front g nsid slba blocks
@@ -160,7 +160,7 @@ abbrev pub read_rows : GeometryFields → (ℕ → State) → ℕ → ℕ → Li
 read_rows g state_of slba blocks =
     when (list_any (λ z. is_offline (state_of z)) (zones_between (zone_of g slba) (last_zone g slba blocks))) zone_offline ∷ []
 
--- an Open of all Closed zones, of which there are so many
+-- an Open of all Closed zones, whose number is `closed`
 abbrev pub open_all_rows : GeometryFields → Limits → ℕ → List (Row Status)
 open_all_rows g n closed = when (not (g.open_limit == 0) && nat_lt g.open_limit (n.opened + closed)) too_many_open_zones ∷ []
 
@@ -174,19 +174,19 @@ event_rows pending waiting = when (not pending && nat_le 4 (length waiting)) eve
 
 -- ---- tables
 
--- A command's table: the rows that no zone decides, those of its zone or of the drive's marks, what it needs, and the
--- zone that it needs it for, or none.
+-- A command's table: the rows that don't depend on a zone, those of its zone or of the drive's marks, what it needs, and the zone that
+-- needs it, or none.
 pub record Table : Type 0 where
   pub front : List (Row Status)
   pub own : List (Row Status)
   pub need : Need
   pub target : Option ℕ
 
--- the rows of a table before the wants of resources
+-- the rows of a table before those on resources
 abbrev pub judging_rows : Table → List (Row Status)
 judging_rows t = t.front ++ t.own
 
--- All rows of a table, where so much is in use; too many open zones don't refuse where another can be closed.
+-- All rows of a table, with these resources in use. If another zone can be closed, too many open zones don't refuse the command.
 abbrev pub table_rows : GeometryFields → Limits → Bool → Table → List (Row Status)
 table_rows g n evictable t = judging_rows t ++ need_rows g n t.need evictable
 

@@ -11,7 +11,7 @@ use Rattle.zone_state.specs.declared.action.Action.{Action}
 use Rattle.zone_state.specs.declared.action.Action.TheVariants as action
 use Rattle.zone_state.specs.Transitions.{go}
 
--- what a row reads of a zone: its state, whether it has a random write area, and the offset of its write pointer
+-- what a row looks at in a zone: its state, whether it has a random write area, and the offset of its write pointer
 pub record Zone : Type 0 where
   pub state : State
   pub window : Bool
@@ -26,7 +26,7 @@ abbrev pub is_misplaced : GeometryFields → Zone → ℕ → ℕ → Bool
 is_misplaced g zone start end =
     if zone.window then not (is_admitted g zone.pointer start end) else not (start == zone.pointer)
 
--- a Write of so many blocks from an offset on
+-- a Write of `blocks` blocks from an offset on
 abbrev pub write_rows : GeometryFields → Zone → ℕ → ℕ → List (Row Status)
 write_rows g zone start blocks =
     closed_to_writes zone.state (
@@ -34,7 +34,7 @@ write_rows g zone start blocks =
     ∷ when (nat_lt g.capacity (start + blocks)) zone_boundary_error
     ∷ [])
 
--- an Append of so many blocks
+-- an Append of `blocks` blocks
 abbrev pub append_rows : GeometryFields → Zone → ℕ → List (Row Status)
 append_rows g zone blocks =
     closed_to_writes zone.state (

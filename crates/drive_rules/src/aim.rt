@@ -16,7 +16,7 @@ pub struct Aim {
     pub deed: Deed,
 }
 
-/// The deed that a command asks for to one zone, and the zone.
+/// The deed that a command asks for on one zone, and that zone.
 pub fn aim_of(g: &Geometry, command: Cmd) -> Option<Aim>
     requires ranges { HasRanges command }
     requires passes { first_holding (front_rows g.now.fields command) ≡ None }
@@ -50,7 +50,7 @@ pub fn aim_of(g: &Geometry, command: Cmd) -> Option<Aim>
     })
 }
 
-/// The deed that a command asks for to every zone whose state takes it.
+/// The deed that a command asks for on every zone whose state takes it.
 pub fn sweep_of(command: Cmd) -> Option<Deed>
     ensures { result ≡ sweep_of command }
 {

@@ -7,7 +7,7 @@ pub enum Deed {
     /// Writes blocks from the write pointer on.
     Append { blocks: u32 },
 
-    /// Opens the zone, with a random write area where one is asked for.
+    /// Opens the zone, with a random write area if one is asked for.
     Open { window: bool },
 
     /// Commits the blocks of the random write area up to an offset.

@@ -8,7 +8,7 @@ use crate::sent::sent_deed;
 use sqe_codec::Cmd;
 use zns_types::{Code, Geometry};
 
-// The code of a Zone Management Send's action that opens a zone, and of the one that commits blocks.
+// The codes of the Zone Management Send actions that open a zone and that commit blocks.
 const OPEN: u8 = 0x03;
 
 const COMMIT: u8 = 0x11;
@@ -24,7 +24,7 @@ fn check_flush(nsid: u32) -> Option<Code>
     (nsid != 1 && nsid != u32::MAX).then_some(Code::INVALID_NAMESPACE)
 }
 
-// A Write, and a Read before its zones are looked at.
+// The rows of a Write, and of a Read before its zones are looked at.
 fn check_blocks(g: &Geometry, nsid: u32, slba: u64, blocks: u32) -> Option<Code>
     ensures { result ≡ first_holding (write_front g.now.fields nsid slba blocks) }
 {
@@ -168,7 +168,7 @@ fn check_excursion(g: &Geometry, nsid: u32, slba: u64, kind: u8) -> Option<Code>
     (g.offset_of(slba) != 0).then_some(Code::INVALID_FIELD)
 }
 
-/// The first row by which a command is refused that no zone decides.
+/// The code by which a command is refused, from the rows that don't depend on a zone.
 pub fn check_front(g: &Geometry, command: Cmd) -> Option<Code>
     requires { HasRanges command }
     ensures { result ≡ first_holding (front_rows g.now.fields command) }

@@ -2,7 +2,7 @@ ghost use Rattle.std.specs.Prelude.{◌≡◌, is_some};
 ghost use Rattle.identify_zns.specs.Pages.{page_of};
 ghost use Rattle.zns_types.specs.declared.fields.GeometryFields.{GeometryFields};
 
-/// Whether there is an Identify page of these numbers.
+/// Whether there is an Identify page with these numbers.
 pub fn is_listed(cns: u8, csi: u8) -> bool
     ensures { (g : GeometryFields) → result ≡ is_some (page_of cns csi g) }
 {

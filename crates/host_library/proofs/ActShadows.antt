@@ -1,4 +1,4 @@
--- What an act of a host makes of the shadows that zones of the drive cast.
+-- What an act of a host does to the shadows of the drive's zones.
 use Rattle.std.proofs.Common.{◌≡◌, ℕ, true, false, List, [], ◌∷◌, ◌++◌, Option, Some, None, refl, sym, ap, ◌∙◌}
 use Rattle.std.proofs.lemmas.Bool.{eq-eqb}
 use Rattle.zns_types.specs.declared.fields.GeometryFields.{GeometryFields}
@@ -27,7 +27,7 @@ abbrev pub led_by : GeometryFields → Option Deed → Shadow → Shadow
 led_by g None s = s
 led_by g (Some d) s = shadow_after g d s
 
--- the shadow of a zone after one act more, by what the act does to the zone
+-- the shadow of a zone after one more act, from what the act does to the zone
 act-shadow : (g : GeometryFields) (acts : List Act) (a : Act) (z : ℕ) → IsGeometry g → (o : Option Deed) → zone_deed g (answered g acts) a z ≡ o → is_followed_by o ≡ true
     → drive_shadow g (answered g (acts ++ a ∷ [])) z ≡ led_by g o (drive_shadow g (answered g acts) z)
 act-shadow g acts a z is None e f = rw (answered-push g acts a) (ap (shadow_of_deeds g) (deeds-idle g (answered g acts) a z e))
@@ -35,7 +35,7 @@ act-shadow g acts a z is (Some d) e f = rw (answered-push g acts a) (
     ap (shadow_of_deeds g) (deeds-done g (answered g acts) a z d e)
     ∙ deed-shadow g (deeds (answered g acts) z) d a.payload is (admitted_after g acts a z d e) f)
 
--- an act that isn't aimed at a zone, and no sweep, leaves its shadow
+-- an act that isn't aimed at a zone, and is no sweep, doesn't change its shadow
 unaimed-shadow : (g : GeometryFields) (acts : List Act) (a : Act) (z : ℕ) → IsGeometry g → is_asked g (command_of a) ≡ true → ((aim : Aim) → aim_of g (command_of a) ≡ Some aim → aim.zone ≡ z → ⊥)
     → drive_shadow g (answered g (acts ++ a ∷ [])) z ≡ drive_shadow g (answered g acts) z
 unaimed-shadow g acts a z is asked other = by_deed (zone_deed g (answered g acts) a z) refl
@@ -53,18 +53,18 @@ aimed_zone : (zone : ℕ) (o : Option Deed) (aim : Aim) → aimed_at zone o ≡ 
 aimed_zone zone None aim e = absurd (cc e)
 aimed_zone zone (Some d) aim e = let same : record { zone = zone; deed = d } ≡ aim = cc in sym (ap (λ (x : Aim). x.zone) same)
 
--- An act of a host leaves the shadows of the zones that it doesn't name.
+-- An act of a host doesn't change the shadows of zones that it doesn't name.
 pub other-shadow : (g : GeometryFields) (acts : List Act) (a : Act) (z : ℕ) → IsGeometry g → is_asked g (command_of a) ≡ true → (named g (command_of a) ≡ z → ⊥)
     → drive_shadow g (answered g (acts ++ a ∷ [])) z ≡ drive_shadow g (answered g acts) z
 other-shadow g acts a z is asked other =
     unaimed-shadow g acts a z is asked (λ aim e here. other (sym (aimed_zone (named g (command_of a)) (deed_of g (command_of a)) aim (sym (asked-aim g (command_of a) asked) ∙ e)) ∙ here))
 
--- A refused act leaves all.
+-- A refused act changes no shadow.
 pub refused-shadow : (g : GeometryFields) (acts : List Act) (a : Act) (z : ℕ) → IsGeometry g → is_success (status g (answered g acts) a) ≡ false
     → drive_shadow g (answered g (acts ++ a ∷ [])) z ≡ drive_shadow g (answered g acts) z
 refused-shadow g acts a z is refused = act-shadow g acts a z is None (deed-refused g (answered g acts) a z refused) refl
 
--- An act of a host that succeeds makes of the shadow of the zone that it names what its deed does.
+-- An act of a host that succeeds changes the shadow of the zone that it names as its deed does.
 pub own-shadow : (g : GeometryFields) (acts : List Act) (a : Act) (o : Option Deed) → IsGeometry g → is_asked g (command_of a) ≡ true → is_success (status g (answered g acts) a) ≡ true → deed_of g (command_of a) ≡ o
     → drive_shadow g (answered g (acts ++ a ∷ [])) (named g (command_of a)) ≡ led_by g o (drive_shadow g (answered g acts) (named g (command_of a)))
 own-shadow g acts a None is asked ok none =

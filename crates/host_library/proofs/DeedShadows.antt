@@ -36,7 +36,7 @@ is_followed deed.Close = true
 is_followed deed.Reset = true
 is_followed _ = false
 
--- a zone's shadow, by the deeds that were done to it
+-- a zone's shadow, from the deeds that were done to it
 abbrev pub shadow_of_deeds : GeometryFields → List Done → Shadow
 shadow_of_deeds g ds = shadow_of_zone (sight_of g ds)
 
@@ -59,13 +59,13 @@ live_pointer _ p on = absurd (cc on)
 active_at : (s : State) (window : Bool) (p : ℕ) → is_active s ≡ true → shadow_at (stage_of s) window p ≡ active window p
 active_at s window p on = rw (active_stage s on) refl
 
--- what a shadow is, by what its zone is
+-- zones that agree have the same shadow
 same_shadow : (s t : State) (v w : Bool) (p q : ℕ) → s ≡ t → v ≡ w → p ≡ q → shadow_at (stage_of s) v p ≡ shadow_at (stage_of t) w q
 same_shadow s t v w p q e f k = rw (e, f, k) refl
 
 -- ---- writes and commits
 
--- a zone that a write or a commit leads to Full at the capacity, and else stays active
+-- a zone after a write or a commit is Full at the capacity, and otherwise still active
 added : (g : GeometryFields) (t : State) (window : Bool) (p : ℕ) → p ≤ g.capacity → is_active t ≡ true
     → shadow_at (stage_of (cond (p == g.capacity) Full t)) (is_active (cond (p == g.capacity) Full t) && window) p ≡ filled_to g window p
 added g t window p within on = elim (cases_Bool (p == g.capacity)) [
@@ -87,7 +87,7 @@ adds-shadow g ds d p is a adds keeps no_window on there =
     same_shadow (state_of g (d ∷ ds)) (cond (p == g.capacity) Full t) (window_of g (d ∷ ds)) (is_active (cond (p == g.capacity) Full t) && window_of g ds) (pointer_of g (d ∷ ds)) p led now there
     ∙ added g t (window_of g ds) p within on
 
--- the pointer after a write is the one that its shadow says
+-- the pointer after a write is the one that its shadow shows
 written_to : (g : GeometryFields) (ds : List Done) (d : Done) (from blocks : ℕ) → IsGeometry g → AreAdmitted g (d ∷ ds) → d.deed ≡ deed.Write from blocks
     → pointer_of g (d ∷ ds) ≡ pointer_after g (record { stage = stage.Active; window = window_of g ds; pointer = pointer_of g ds }) from blocks
 written_to g ds d from blocks is a e = elim (cases_Bool (window_of g ds)) [
@@ -171,7 +171,7 @@ reset-shadow g ds payload a =
 
 -- ---- all of them
 
--- A deed makes of a zone's shadow the shadow of the zone.
+-- A deed changes a zone's shadow as it changes the zone.
 pub deed-shadow : (g : GeometryFields) (ds : List Done) (e : Deed) (payload : List ℕ) → IsGeometry g → AreAdmitted g (record { deed = e; payload = payload } ∷ ds) → is_followed e ≡ true
     → shadow_of_deeds g (record { deed = e; payload = payload } ∷ ds) ≡ shadow_after g e (shadow_of_deeds g ds)
 deed-shadow g ds (deed.Write from blocks) payload is a f = write-shadow g ds from blocks payload is a

@@ -1,4 +1,4 @@
--- A drive of one's own posts an entry for each command that is no event request.
+-- A link's own drive posts an entry for each command that is no event request.
 use Rattle.std.proofs.Common.{◌≡◌, ◌<◌, Bool, true, false, ◌||◌, List, [], ◌∷◌, length, Some, arith}
 use Rattle.std.specs.Prelude.{slice_get}
 use Rattle.zone_model.specs.declared.act.Act.{Act}

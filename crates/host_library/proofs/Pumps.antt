@@ -132,7 +132,7 @@ module _ {L : Type 0} where
       } in
       subst (λ (h : Hosted L). Sends step h after (Err error.LinkFault) out) same sends
 
--- ---- by a told history
+-- ---- from a told history
 
 pub answered-told : (linked g : GeometryFields) (told after : Option (List Act)) (acts ring : List Act) (a act : Act) (rest : List Act) (answer : List ℕ × ℕ) (given : Result (Option Done) HostErr) (out : List ℕ)
     → linked ≡ g → All (IsAsked g) ring → Some a ≡ slice_get ring 0 → told ≡ Some acts → ring ≡ act ∷ rest → Gains told after a → ((h : List Act) → told ≡ Some h → IsAnswered linked h a answer.0 answer.1 out)

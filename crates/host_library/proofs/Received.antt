@@ -1,4 +1,4 @@
--- The shadow of a zone by its report.
+-- The shadow of a zone, from its report.
 use Rattle.std.proofs.Common.{◌≡◌, ℕ, Bool, List, Some, refl, ap, ◌∙◌, sym}
 use Rattle.std.specs.Prelude.{nat_lt, slice_range}
 use Rattle.zns_types.specs.declared.fields.GeometryFields.{GeometryFields}

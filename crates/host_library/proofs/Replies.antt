@@ -1,4 +1,4 @@
--- What a command that succeeded reads, and how long a report is.
+-- What a command that succeeded reads, and the length of a report.
 use Rattle.std.proofs.Common.{◌≡◌, ℕ, ◌++◌, Bool, true, cond, List, length, refl}
 use Rattle.std.specs.Prelude.{filter, replicate}
 use Rattle.byteorder.specs.Endian.{little_bytes}

@@ -1,4 +1,4 @@
--- A report of one zone shows the shadow that the zone of the drive casts.
+-- A report of one zone shows the shadow of the drive's zone.
 use Rattle.std.proofs.Common.{◌≡◌, ℕ, zero, ◌+◌, ◌*◌, ◌-◌, ◌^◌, ◌<◌, ◌≤◌, min, Bool, true, false, cond, List, ◌∷◌, length, take, drop, refl, sym, ap, ◌∙◌, arith}
 use Rattle.std.specs.Prelude.{◌&&◌, slice_index, slice_range}
 use Rattle.std.proofs.lemmas.List.{drop_more, drop-take}
@@ -30,7 +30,7 @@ use Rattle.host_library.proofs.Shown.{described-stage}
 
 -- ---- the bytes
 
--- the descriptor stands after the head
+-- the descriptor comes after the head
 one_zone : (d : Descriptor) (ds : List Descriptor) → take 64 (drop 64 (report 128 0 true (d ∷ ds))) ≡ descriptor_bytes d
 one_zone d ds = refl
 
@@ -136,7 +136,7 @@ attributes-window : (g : GeometryFields) (h : List Place) (z : ℕ) → bit 3 (a
 unfolding attributes_of
 attributes-window g h z = window_bit _ _ _ _
 
--- What a zone's descriptor shows is the shadow that the zone casts.
+-- What a zone's descriptor shows is the zone's shadow.
 pub descriptor-shown : (g : GeometryFields) (acts : List Act) (z : ℕ) → IsGeometry g → z < g.zones → shadow_shown g z (descriptor_bytes (descriptor g (answered g acts) z)) ≡ drive_shadow g (answered g acts) z
 descriptor-shown g acts z is lt =
     let h = answered g acts in

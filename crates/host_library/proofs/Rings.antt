@@ -1,4 +1,4 @@
--- What stands in a host's ring.
+-- The commands in a host's ring.
 use Rattle.std.proofs.Common.{◌≡◌, ℕ, zero, suc, ◌<◌, ◌≤◌, false, List, [], ◌∷◌, ◌++◌, length, drop, Option, Some, None, refl, ◌∙◌, subst, arith, length-append, length-drop}
 use Rattle.std.specs.Prelude.{All, slice_get}
 use Rattle.std.proofs.lemmas.List.Elements.{All-append, All-drop}
@@ -84,6 +84,6 @@ pub oldest-asked : (g : GeometryFields) (ring : List Act) (a : Act) → Some a �
 oldest-asked g [] a e all = absurd (cc e)
 oldest-asked g (b ∷ ring) a e all = let same : b ≡ a = cc in subst (IsAsked g) same (all 0 b (omega arith))
 
--- its lengths, in more room than a report wants
+-- its lengths, in at least the room that a report needs
 pub asked-lengths : (linked g : GeometryFields) (a : Act) (room : ℕ) → linked ≡ g → IsAsked g a → 128 ≤ room → HasLengths linked a room
 asked-lengths linked g a room same asked le = rw same (record { payload = asked.lengths.payload; reply = let few = asked.lengths.reply in omega arith })

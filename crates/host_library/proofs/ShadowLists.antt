@@ -1,4 +1,4 @@
--- The shadows of a host stay the drive's.
+-- The known shadows of a host stay the drive's.
 use Rattle.std.proofs.Common.{◌≡◌, ℕ, ◌<◌, true, false, List, [], ◌∷◌, ◌++◌, length, Option, Some, None, refl, sym, ap, ◌∙◌, subst, arith, inl, inr}
 use Rattle.std.specs.Prelude.{◌==◌}
 use Rattle.std.proofs.lemmas.Bool.{cases_Bool, eqb-true, eqb-false}
@@ -17,7 +17,7 @@ use Rattle.host_library.specs.Pumping.{with_changed}
 use Rattle.host_library.proofs.Asked.{named}
 use Rattle.host_library.proofs.ActShadows.{other-shadow, refused-shadow, success-about}
 
--- each shadow that is known is the drive's
+-- each known shadow is the drive's
 abbrev pub AreDrives : GeometryFields → List Act → List Shadow → Type 0
 AreDrives g acts shadows = (z : ℕ) → z < g.zones → IsTrueShadow g acts z (shadow_in shadows z)
 
@@ -29,7 +29,7 @@ changed-here f shadows z lt = get_or-set_same shadows z (f (shadow_in shadows z)
 pub changed-there : (f : Shadow → Shadow) (shadows : List Shadow) (y z : ℕ) → (y ≡ z → ⊥) → shadow_in (with_changed (Some y) f shadows) z ≡ shadow_in shadows z
 changed-there f shadows y z other = get_or-set_other shadows y z (f (shadow_in shadows y)) unknown (λ e. other (sym e))
 
--- a shadow that is another's, over a history that leaves the zone's
+-- a shadow that stays the same, over a history that doesn't change the zone's
 true-along : (g : GeometryFields) (old new : List Act) (z : ℕ) (s t : Shadow) → s ≡ t → drive_shadow g (answered g new) z ≡ drive_shadow g (answered g old) z → IsTrueShadow g old z t → IsTrueShadow g new z s
 true-along g old new z s t e same was known = e ∙ was (ap (λ (x : Shadow). is_known x.stage) (sym e) ∙ known) ∙ sym same
 
@@ -38,7 +38,7 @@ true-along g old new z s t e same was known = e ∙ was (ap (λ (x : Shadow). is
 unknown-true : (g : GeometryFields) (acts : List Act) (z : ℕ) (s : Shadow) → s ≡ unknown → IsTrueShadow g acts z s
 unknown-true g acts z s e known = absurd (cc (known, ap (λ (x : Shadow). is_known x.stage) e))
 
--- where a history leaves every other zone
+-- if a history doesn't change any other zone
 forgotten : (g : GeometryFields) (old new : List Act) (o : Option ℕ) (shadows : List Shadow) → length shadows ≡ g.zones → AreDrives g old shadows
     → ((z : ℕ) → z < g.zones → (o ≡ Some z → ⊥) → drive_shadow g (answered g new) z ≡ drive_shadow g (answered g old) z) → AreDrives g new (with_changed o (λ s. unknown) shadows)
 forgotten g old new None shadows len was same z lt = true-along g old new z (shadow_in shadows z) (shadow_in shadows z) refl (same z lt (λ e. cc (e))) (was z lt)
@@ -56,7 +56,7 @@ forgotten g old new (Some y) shadows len was same z lt = elim (cases_Bool (y == 
 pub forgotten-same : (g : GeometryFields) (acts : List Act) (o : Option ℕ) (shadows : List Shadow) → length shadows ≡ g.zones → AreDrives g acts shadows → AreDrives g acts (with_changed o (λ s. unknown) shadows)
 forgotten-same g acts o shadows len was = forgotten g acts acts o shadows len was (λ z lt other. refl)
 
--- an act of a host leaves every zone that it isn't about
+-- an act of a host doesn't change a zone that it isn't about
 left : (g : GeometryFields) (acts : List Act) (a : Act) (z : ℕ) → IsGeometry g → is_asked g (command_of a) ≡ true → (zone_about g (command_of a) ≡ Some z → ⊥)
     → drive_shadow g (answered g (acts ++ a ∷ [])) z ≡ drive_shadow g (answered g acts) z
 left g acts a z is asked other = elim (cases_Bool (is_success (status g (answered g acts) a))) [
@@ -76,7 +76,7 @@ refused-stays g acts a shadows is refused was z lt = true-along g acts (acts ++ 
 
 -- ---- a command that succeeded
 
--- the shadow of the zone that it names becomes the drive's, where it is known
+-- the shadow of the zone that it names becomes the drive's, if it is known
 pub done-follows : (g : GeometryFields) (acts : List Act) (a : Act) (f : Shadow → Shadow) (shadows : List Shadow) → IsGeometry g → is_asked g (command_of a) ≡ true → is_success (status g (answered g acts) a) ≡ true
     → length shadows ≡ g.zones → AreDrives g acts shadows
     → (named g (command_of a) < g.zones → IsTrueShadow g acts (named g (command_of a)) (shadow_in shadows (named g (command_of a))) → IsTrueShadow g (acts ++ a ∷ []) (named g (command_of a)) (f (shadow_in shadows (named g (command_of a)))))

@@ -1,4 +1,4 @@
--- What bytes show of a zone, by the descriptor that is read from them.
+-- What bytes show of a zone, from the descriptor that they spell.
 use Rattle.std.proofs.Common.{◌≡◌, ℕ, ◌/◌, ◌%◌, ◌-◌, ◌≤◌, min, Bool, false, List, refl, sym, ap, ◌∙◌, arith, inl, inr}
 use Rattle.std.specs.Prelude.{◌==◌, ◌&&◌, nat_le, slice_index}
 use Rattle.std.proofs.lemmas.Bool.{cases_Bool, and_parts, ne_eqb, leb-true}

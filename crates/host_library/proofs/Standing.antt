@@ -20,7 +20,7 @@ use Rattle.host_library.proofs.Asked.{asked-event}
 use Rattle.host_library.proofs.ShadowLists.{AreDrives, forgotten-same, forgotten-served, refused-stays, done-follows}
 use Rattle.host_library.proofs.ToldAnswers.{verdict-told, done-true}
 
--- one history is told at most
+-- at most one history is told
 told_once : (now : Option (List Act)) (acts others : List Act) → now ≡ Some acts → now ≡ Some others → acts ≡ others
 told_once now acts others e f = cc
 
@@ -29,7 +29,7 @@ none_told now acts e f = cc
 
 -- ---- an answer
 
--- the shadows by what the definitions say of the act
+-- the shadows, from what the definitions say of the act
 told-follows : (g : GeometryFields) (acts : List Act) (a : Act) (bytes : List ℕ) (len : ℕ) (out : List ℕ) (shadows : List Shadow) → IsGeometry g → IsAsked g a → length shadows ≡ g.zones → AreDrives g acts shadows
     → IsAnswered g acts a bytes len out → AreDrives g (acts ++ a ∷ []) (shadows_after g (command_of a) (verdict_told g (answered g acts) a) out shadows)
 told-follows g acts a bytes len out shadows is asked long was answer = elim (cases_Bool (is_success (status g (answered g acts) a))) [

@@ -1,4 +1,4 @@
--- What an answer says where the link tells its history.
+-- What an answer says if the link tells its history.
 use Rattle.std.proofs.Common.{◌≡◌, ℕ, ◌<◌, Bool, true, false, List, [], ◌∷◌, ◌++◌, length, take, drop, Option, Some, None, refl, sym, ap, ◌∙◌, subst}
 use Rattle.std.specs.Prelude.{◌==◌, ◌&&◌, filter, slice_get}
 use Rattle.std.proofs.lemmas.Bool.{and_parts, eqb-true}

@@ -1,4 +1,4 @@
--- The commands of a host, and which zone each is about.
+-- The commands of a host, and the zone that each is about.
 use Rattle.std.specs.Prelude.{◌≡◌, ℕ, ◌+◌, ◌*◌, ◌/◌, ◌≤◌, Bool, true, false, not, ◌&&◌, ◌||◌, ◌==◌, nat_lt, nat_le, if◌then◌else◌, List, length, Option, Some, None, slice_range}
 use Rattle.zns_types.specs.declared.fields.GeometryFields.{GeometryFields}
 use Rattle.zns_types.specs.Geometry.{all_blocks, block_len, first, zone_of, offset_of}
@@ -78,7 +78,7 @@ reset_of g zone = sent_to (first g zone) reset_code false
 abbrev pub report_of : GeometryFields → ℕ → Cmd
 report_of g zone = cmd.Receive 1 (first g zone) report_len 0 0 true
 
--- ---- what stands in a ring
+-- ---- the commands in a ring
 
 -- the commands that a host sends
 abbrev pub is_asked : GeometryFields → Cmd → Bool
@@ -103,7 +103,7 @@ pub record IsAsked (g : GeometryFields) (a : Act) : Type 0 where
 
 -- ---- the zone that a command is about
 
--- the zone of a block, where the namespace has the block
+-- the zone of a block, if the namespace has the block
 abbrev pub zone_at : GeometryFields → ℕ → Option ℕ
 zone_at g lba = if nat_lt lba (all_blocks g) then Some (zone_of g lba) else None
 

@@ -1,4 +1,4 @@
--- What a host is seen as, what is true of every host, and what the calls that fill its ring do.
+-- The view of a host, what is true of every host, and what the calls that fill its ring do.
 use Rattle.std.specs.Prelude.{◌≡◌, ℕ, ◌+◌, ◌%◌, ◌^◌, ◌<◌, ◌≤◌, Bool, ◌==◌, true, if◌then◌else◌, List, [], ◌∷◌, ◌++◌, length, All, slice_index_or, replicate, Option, Some, Result, Ok, Err}
 use Rattle.zns_types.specs.declared.fields.GeometryFields.{GeometryFields}
 use Rattle.sqe_codec.specs.declared.cmd.Cmd.{Cmd}
@@ -10,8 +10,8 @@ use Rattle.host_library.specs.declared.host_err.HostErr.TheVariants as error
 use Rattle.host_library.specs.Shadows.{unknown, is_known, IsShadow, drive_shadow}
 use Rattle.host_library.specs.Asking.{IsAsked, act_for}
 
--- Its link, the numbers of the link's drive, the commands that wait to be sent, the oldest first, the number of the next
--- command, and a shadow for each zone.
+-- A host's link, the geometry of the link's drive, the commands that wait to be sent, the oldest first, the number of the next command, and
+-- a shadow for each zone.
 pub record Hosted (L : Type 0) : Type 0 where
   pub link : L
   pub geometry : GeometryFields
@@ -23,7 +23,7 @@ pub record Hosted (L : Type 0) : Type 0 where
 abbrev pub shadow_in : List Shadow → ℕ → Shadow
 shadow_in shadows z = slice_index_or shadows z unknown
 
--- a shadow is unknown, or is the one that the zone of the drive casts
+-- a shadow is unknown, or is that of the drive's zone
 abbrev pub IsTrueShadow : GeometryFields → List Act → ℕ → Shadow → Type 0
 IsTrueShadow g acts z s = is_known s.stage ≡ true → s ≡ drive_shadow g (answered g acts) z
 
@@ -32,12 +32,12 @@ pub record HasShadows (g : GeometryFields) (shadows : List Shadow) : Type 0 wher
   pub len : length shadows ≡ g.zones
   pub each : (z : ℕ) → z < g.zones → IsShadow g (shadow_in shadows z)
 
--- each that is known is the drive's
+-- each known shadow is the drive's
 abbrev pub AreTrue : GeometryFields → Option (List Act) → List Shadow → Type 0
 AreTrue g told shadows = (acts : List Act) → told ≡ Some acts → (z : ℕ) → z < g.zones → IsTrueShadow g acts z (shadow_in shadows z)
 
--- What is true of every host: it has the link's geometry, its ring has room for as many commands as a queue, and each
--- command there is one of a host.
+-- What is true of every host: it has the link's geometry, its ring has room for as many commands as a queue has entries, and each command
+-- there is one of a host.
 pub record HostStands (linked : GeometryFields) (told : Option (List Act)) (g : GeometryFields) (ring : List Act) (room : ℕ) (shadows : List Shadow) : Type 0 where
   pub geometry : linked ≡ g
   pub queues : 2 ≤ g.queues
@@ -67,7 +67,7 @@ module _ {L : Type 0} where
   abbrev pub put_gives : Hosted L → List ℕ → Result ℕ HostErr
   put_gives h payload = if is_full h then Err (error.RingFull payload) else Ok h.next
 
-  -- the host with one more command at its ring's back, where there is room
+  -- the host with one more command at its ring's back, if there is room
   abbrev pub after_put : Hosted L → Cmd → List ℕ → Hosted L
   after_put h k payload = record h {
     ring = if is_full h then h.ring else h.ring ++ act_for k h.next payload ∷ [];

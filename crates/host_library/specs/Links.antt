@@ -1,4 +1,4 @@
--- What a link answers, and what that says of the history that it tells.
+-- What a link answers, and what that says of the history it tells.
 use Rattle.std.specs.Prelude.{◌≡◌, ℕ, List, [], ◌∷◌, ◌++◌, length, take, slice_get, Option, Some, None, Result, ◌⊎◌}
 use Rattle.zns_types.specs.declared.fields.GeometryFields.{GeometryFields}
 use Rattle.cqe_codec.specs.declared.cqe.Cqe.{Cqe}
@@ -8,7 +8,7 @@ use Rattle.zone_model.specs.Answers.{answered}
 use Rattle.zone_model.specs.Entries.{posted}
 use Rattle.zone_model.specs.Replies.{reply_bytes}
 
--- what a send answers: the bytes of an entry and how many bytes were read, or the host data that comes back
+-- the answer to a send: the bytes of an entry and the number of bytes that were read, or the host data that comes back
 abbrev pub Answer : Type 0
 Answer = Result (List ℕ × ℕ) (List ℕ)
 
@@ -24,7 +24,7 @@ pub record IsAnswered (g : GeometryFields) (acts : List Act) (a : Act) (bytes : 
   pub len : count ≡ length (reply_bytes g (answered g acts) a)
   pub read : take count out ≡ reply_bytes g (answered g acts) a
 
--- The act was served: a history that was told before is told with this act at its end, and no other is told.
+-- The act was served: a history that was told before is told with this act at its end, and none is told that wasn't.
 pub record Gains (before now : Option (List Act)) (a : Act) : Type 0 where
   pub untold : before ≡ None → now ≡ None
   pub told : (acts : List Act) → before ≡ Some acts → now ≡ Some (acts ++ a ∷ [])

@@ -1,4 +1,4 @@
--- What a link to a drive of one's own does.
+-- What a link to a drive that it owns does.
 use Rattle.std.specs.Prelude.{◌≡◌, ℕ, ◌-◌, Bool, ◌||◌, ◌==◌, MatchBool, List, [], ◌∷◌, ◌++◌, length, drop, slice_get, Some, Ok, Err}
 use Rattle.zns_io.specs.Faults.{next_count}
 use Rattle.cqe_codec.specs.declared.cqe.Cqe.{Cqe}

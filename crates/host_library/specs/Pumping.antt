@@ -26,19 +26,19 @@ use Rattle.host_library.specs.Hosts.{Hosted, shadow_in}
 abbrev pub status_in : List ℕ → Status
 status_in entry = record { sct = bits 27 25 (dword 3 entry); sc = bits 24 17 (dword 3 entry) }
 
--- What comes of a command by its entry: torn, where bits are set that no entry uses; refused; or done.
+-- What comes of a command, from its entry: torn, if bits are set that no entry uses; refused; or done.
 abbrev pub verdict_of : ℕ → List ℕ → ℕ → Result Done HostErr
 verdict_of cid entry len =
     if sets_unused entry then Err (error.Torn (slice_index entry 15))
     else if is_success (status_in entry) then Ok (record { cid = cid; dw0 = dword 0 entry; dw1 = dword 1 entry; len = len })
     else Err (error.Refused (status_in entry))
 
--- what comes of an act by the link's answer
+-- what comes of an act, from the link's answer
 abbrev pub verdict_by : Act → Answer → Result Done HostErr
 verdict_by a (Ok answer) = verdict_of (cid_of a.sqe.bytes) answer.0 answer.1
 verdict_by a (Err payload) = Err error.LinkFault
 
--- what comes of an act by the definitions
+-- what comes of an act, from the definitions
 abbrev pub verdict_told : GeometryFields → List Place → Act → Result Done HostErr
 verdict_told g h a =
     if is_success (status g h a) then Ok (record { cid = cid_of a.sqe.bytes; dw0 = (dwords_of g h a).dw0; dw1 = (dwords_of g h a).dw1; len = length (reply_bytes g h a) })
@@ -46,13 +46,12 @@ verdict_told g h a =
 
 -- ---- shadows
 
--- the shadows with that of one zone, if there is one, changed
+-- the shadows after that of one zone changed, if there is one
 abbrev pub with_changed : Option ℕ → (Shadow → Shadow) → List Shadow → List Shadow
 with_changed None f shadows = shadows
 with_changed (Some z) f shadows = slice_set shadows z (f (shadow_in shadows z))
 
--- The shadows after a command: a refused one changes none, and one whose link failed or whose entry was torn makes its
--- zone's unknown.
+-- The shadows after a command. A refused command changes none, and one whose link failed or whose entry was torn makes its zone's unknown.
 abbrev pub shadows_after : GeometryFields → Cmd → Result Done HostErr → List ℕ → List Shadow → List Shadow
 shadows_after g k (Ok done) out shadows = with_changed (zone_about g k) (shadow_done g k out) shadows
 shadows_after g k (Err (error.Refused code)) out shadows = shadows
@@ -60,12 +59,12 @@ shadows_after g k (Err _) out shadows = with_changed (zone_about g k) (λ _. unk
 
 -- ---- the call
 
--- the commands that wait afterwards: the oldest again, where the link failed
+-- the commands that wait afterwards: the oldest again, if the link failed
 abbrev pub ring_after : Act → List Act → Result Done HostErr → List Act
 ring_after a rest (Err error.LinkFault) = a ∷ rest
 ring_after a rest _ = rest
 
--- what the call answers
+-- what the call returns
 abbrev pub pumped : Result Done HostErr → Result (Option Done) HostErr
 pumped (Ok done) = Ok (Some done)
 pumped (Err e) = Err e

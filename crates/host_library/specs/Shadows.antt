@@ -1,4 +1,4 @@
--- What a host knows of a zone, and what its commands make of it.
+-- What a host knows of a zone, and how its commands change that.
 use Rattle.std.specs.Prelude.{◌≡◌, ℕ, ◌+◌, ◌-◌, ◌<◌, ◌≤◌, min, max, Bool, true, false, ◌&&◌, ◌||◌, ◌==◌, nat_le, if◌then◌else◌, List, slice_index}
 use Rattle.zns_types.specs.declared.fields.GeometryFields.{GeometryFields}
 use Rattle.zns_types.specs.declared.state.State.{State}
@@ -57,14 +57,14 @@ has_pointer = by_stage false true true false false false
 abbrev pub unknown : Shadow
 unknown = record { stage = stage.Unknown; window = false; pointer = 0 }
 
--- a shadow in a stage; it has a pointer only where the zone has one
+-- a shadow in a stage; it has a pointer only if the zone has one
 abbrev pub shadow_at : Stage → Bool → ℕ → Shadow
 shadow_at s window pointer = record { stage = s; window = window; pointer = if has_pointer s then pointer else 0 }
 
 abbrev pub shadow_of_zone : Zone → Shadow
 shadow_of_zone zone = shadow_at (stage_of zone.state) zone.window zone.pointer
 
--- the shadow that a zone of the drive casts
+-- the shadow of a zone of the drive
 abbrev pub drive_shadow : GeometryFields → List Place → ℕ → Shadow
 drive_shadow g h z = shadow_of_zone (zone g h z)
 
@@ -79,8 +79,8 @@ pub record IsShadow (g : GeometryFields) (s : Shadow) : Type 0 where
 abbrev pub stage_shown : List ℕ → Stage
 stage_shown bytes = if type_of bytes == sequential then stage_numbered (state_number bytes) else stage.Unknown
 
--- The shadow of a zone by its descriptor: the pointer is counted from the zone's first block, and the random write area
--- is bit 3 of the attributes.
+-- The shadow of a zone, from its descriptor: the pointer is counted from the zone's first block, and the random write area is bit 3 of the
+-- attributes.
 abbrev pub shadow_shown : GeometryFields → ℕ → List ℕ → Shadow
 shadow_shown g z bytes = shadow_at (stage_shown bytes) (is_active_stage (stage_shown bytes) && bit 3 (slice_index bytes 2)) (min (field 24 8 bytes - first g z) g.capacity)
 
@@ -95,12 +95,12 @@ empty = record { stage = stage.Empty; window = false; pointer = 0 }
 abbrev pub full : Shadow
 full = record { stage = stage.Full; window = false; pointer = 0 }
 
--- an active zone with its pointer at an offset, and a full one where that is the capacity
+-- an active zone with its pointer at an offset, or a full one if that is the capacity
 abbrev pub filled_to : GeometryFields → Bool → ℕ → Shadow
 filled_to g window pointer = if nat_le g.capacity pointer then full else active window pointer
 
--- the pointer after a write of so many blocks from an offset on: with a random write area, the least granule from where
--- on the write ends inside the area
+-- the pointer after a write of `blocks` blocks from an offset on: with a random write area, the least multiple of the granule from which on
+-- the write ends inside the area
 abbrev pub pointer_after : GeometryFields → Shadow → ℕ → ℕ → ℕ
 pointer_after g s from blocks = if s.window then least_multiple g.granule (max s.pointer (from + blocks - g.window)) else s.pointer + blocks
 
@@ -110,7 +110,7 @@ IsInZone g (deed.Write from blocks) = from < g.zone_size
 IsInZone g (deed.Commit last) = last < g.zone_size
 IsInZone g _ = Unit {0}
 
--- the shadow of a zone to which a deed was done
+-- the shadow of a zone after a deed
 abbrev pub shadow_after : GeometryFields → Deed → Shadow → Shadow
 shadow_after g (deed.Write from blocks) s = filled_to g s.window (pointer_after g s from blocks)
 shadow_after g (deed.Append blocks) s = filled_to g s.window (s.pointer + blocks)

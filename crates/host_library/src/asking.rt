@@ -22,7 +22,7 @@ pub(crate) const RESET: u8 = 0x04;
 
 pub(crate) const COMMIT: u8 = 0x11;
 
-// The zone of a block, where the namespace has the block.
+// The zone of a block, or `None` past the namespace.
 fn zone_at(g: &Geometry, lba: u64) -> Option<u32>
     ensures exact { result ≡ zone_at g.now.fields lba }
     ensures within { IfSome result (λ zone. zone < g.now.fields.zones) }
@@ -81,7 +81,8 @@ fn deed_of(g: &Geometry, command: Cmd) -> Option<Deed>
     }
 }
 
-// The shadow of a zone to which a command did a deed, or none. One that wasn't known stays so.
+// The shadow of a zone after a command's deed, if it has one. A shadow that wasn't known stays
+// unknown.
 fn shadow_led(g: &Geometry, deed: Option<Deed>, shadow: Shadow) -> Shadow
     requires plain { IsShadow g.now.fields shadow }
     requires in_zone { IfSome deed (IsInZone g.now.fields) }

@@ -6,9 +6,9 @@ use solo_drive::Solo;
 use sqe_codec::Sqe;
 use zns_io::{Bytes, CallPlan};
 
-/// A link to a drive of one's own, of which some sends fail: those whose numbers, from 0, are in a
-/// list, and those that fail over a `LoopLink`. It tells its history, which is the drive's journal. A
-/// send that fails serves nothing. It is for tests of hosts.
+/// A link to a drive that it owns, for tests of hosts. The sends whose numbers, from 0, are in a
+/// list fail, and so do those that fail over a `LoopLink`. The link tells its history, which is the
+/// drive's journal. A send that fails serves nothing.
 #[derive(Drop)]
 pub struct FailLink {
     drive: Solo,
@@ -16,7 +16,7 @@ pub struct FailLink {
 }
 
 impl FailLink {
-    /// The link to a drive. The sends whose numbers are in `failing` fail.
+    /// A link to a drive. The sends whose numbers are in `failing` fail.
     pub fn new(drive: Solo, failing: Vec<u32>) -> FailLink
         ensures drive { result.drive ≡ drive }
         ensures calls { result.calls ≡ record { failing = failing.items; made = 0; faults = 0 } }

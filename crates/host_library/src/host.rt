@@ -46,8 +46,8 @@ impl<L: Link> Model for Host<L> {
 }
 
 impl<L: Link> Host<L> {
-    /// A host of the drive behind a link. It uses queue 1, its ring has room for as many commands as
-    /// a queue has entries, and every zone is Unknown.
+    /// A host of the drive at the other end of a link. It uses queue 1, its ring has room for as
+    /// many commands as a queue has entries, and every zone is Unknown.
     pub fn new(alloc: Global, link: L, g: Geometry) -> Result<Host<L>, NoMemory>
         requires queues { 2 ≤ g.fields.queues }
         requires geometry { L.geometry link ≡ g.fields }
@@ -65,8 +65,8 @@ impl<L: Link> Host<L> {
         })
     }
 
-    /// What the host knows of a zone. It is known from a report of the zone that was done, until a
-    /// command of the zone fails on the link or its entry is torn. Where the link tells its history,
+    /// What the host knows of a zone. It is known once a report of the zone was done, until a
+    /// command of the zone fails on the link or its entry is torn. If the link tells its history,
     /// what is known is what the drive has made of the zone.
     pub fn shadow(&self, zone: u32) -> Shadow
         requires { zone < self.now.geometry.zones }
@@ -79,7 +79,7 @@ impl<L: Link> Host<L> {
         self.shadows[zone as usize]
     }
 
-    /// The link.
+    /// Returns the link.
     pub fn into_link(self) -> L
         ensures { result ≡ self.link }
     {

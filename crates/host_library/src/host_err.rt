@@ -3,7 +3,7 @@ use thiserror::Error;
 use zns_io::Bytes;
 use zns_types::Code;
 
-/// Why a host's call gave nothing.
+/// Why a call of a host failed.
 #[derive(Drop, Error)]
 pub enum HostErr {
     /// The link failed. The command is still the oldest in the ring.
@@ -14,16 +14,17 @@ pub enum HostErr {
     #[error("the drive refused the command: {0:?}")]
     Refused(Code),
 
-    /// As many commands wait as a queue has entries. The host data comes back.
+    /// The ring is full: as many commands wait as a queue has entries. The host data comes back.
     #[error("the ring is full")]
     RingFull(Bytes),
 
-    /// The completion entry sets bits that no entry uses: its last byte, which has them.
+    /// The completion queue entry sets bits that no entry uses. They are in its last byte, which
+    /// this is.
     #[error("the completion entry is torn: its last byte is {0:#04x}")]
     Torn(u8),
 }
 
-// Host data shows as its length.
+// Shows host data as its length.
 impl fmt::Debug for HostErr {
     fn fmt<W: fmt::Write>(&self, f: &mut fmt::Formatter<W>) -> fmt::Result {
         match self {

@@ -15,20 +15,22 @@ pub trait Link: Drop {
     /// The numbers of the drive.
     ghost geometry: { Self → GeometryFields };
 
-    /// The acts that the drive has served, where the link tells them.
+    /// The acts that the drive has served, if the link tells them.
     ghost history: { Self → Option (List Act) };
 
-    /// How many sends failed, up to `u64::MAX`.
+    /// The number of sends that failed, up to `u64::MAX`.
     ghost faults: { Self → ℕ };
 
-    /// For how many more sends it is sure that none fails.
+    /// The number of further sends that are sure not to fail.
     ghost sure: { Self → ℕ };
 
-    /// What a send of an act may answer, put into some room, and leave of the link.
+    /// The outcomes that a send of an act may have: the room before, the answer, the room after,
+    /// and the link that is left.
     ghost step: { Self → Act → List ℕ → Answer → List ℕ → Self → Type 0 };
 
-    /// Sends an entry on a queue, with its host data. Answers the first entry that the drive posts
-    /// for it, and how many bytes it read, at the start of `out`; or gives the host data back.
+    /// Sends an entry on a queue, with its host data. Returns the first entry that the drive posts
+    /// for it, and the number of bytes that it read, which are at the start of `out`. If the send
+    /// fails, the host data comes back.
     fn send(
         &mut self,
         queue: u16,

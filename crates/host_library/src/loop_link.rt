@@ -9,9 +9,9 @@ use solo_drive::Solo;
 use sqe_codec::{Cmd, Sqe, read};
 use zns_io::Bytes;
 
-/// A link to a drive of one's own. It tells its history, which is the drive's journal, and fails
-/// exactly where the drive has no room for one more act, and for an event request, which could wait
-/// for its entry. A send that fails serves nothing.
+/// A link to a drive that it owns. It tells its history, which is the drive's journal. It fails
+/// exactly if the drive has no room for one more act, or if the command is an event request, which
+/// could wait for its entry. A send that fails serves nothing.
 #[derive(Drop)]
 pub struct LoopLink {
     drive: Solo,
@@ -43,7 +43,7 @@ pub(crate) fn own_entry(entries: &ArrayVec<Cqe, 2>) -> Cqe
 }
 
 impl LoopLink {
-    /// The link to a drive.
+    /// A link to a drive.
     pub fn new(drive: Solo) -> LoopLink
         ensures { result ≡ record { drive = drive; faults = 0 } }
     {

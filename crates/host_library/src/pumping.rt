@@ -1,4 +1,4 @@
-//! What an answered command makes of the shadows.
+//! What an answered command does to the shadows.
 ghost use Rattle.std.specs.Prelude.{◌≡◌, ◌≤◌, false, [], length, Err};
 ghost use Rattle.sqe_codec.specs.Commands.{command, cid_of};
 ghost use Rattle.host_library.specs.declared.host_err.HostErr.TheVariants as error;
@@ -14,7 +14,7 @@ use crate::shadows::UNKNOWN;
 use sqe_codec::{Cmd, Sqe, cid, read};
 use zns_types::{Code, Geometry};
 
-/// Nothing is known any more of the zone that a command is about.
+/// Forgets the zone that a command is about: its shadow becomes Unknown.
 pub(crate) fn forget(shadows: &mut [Shadow], g: &Geometry, sqe: &Sqe)
     requires shadows { HasShadows g.now.fields shadows.old }
     ensures exact { shadows.new ≡ shadows_after g.now.fields (command false sqe.now.bytes)
@@ -26,7 +26,7 @@ pub(crate) fn forget(shadows: &mut [Shadow], g: &Geometry, sqe: &Sqe)
     }
 }
 
-// The shadows after a command that succeeded.
+// Updates the shadow of a command's zone after the command succeeded.
 fn follow(shadows: &mut [Shadow], g: &Geometry, command: Cmd, out: &[u8])
     requires shadows { HasShadows g.now.fields shadows.old }
     requires room { 128 ≤ length out.now }
@@ -40,7 +40,7 @@ fn follow(shadows: &mut [Shadow], g: &Geometry, command: Cmd, out: &[u8])
     }
 }
 
-/// Reads the entry of an answer to a command, and lets the shadow of the command's zone follow.
+/// Reads the entry of an answer to a command, and updates the shadow of the command's zone.
 pub(crate) fn settle(
     shadows: &mut [Shadow],
     g: &Geometry,

@@ -8,6 +8,6 @@ pub struct Shadow {
     /// Whether the zone has a random write area.
     pub window: bool,
 
-    /// The write pointer of an empty or active zone, in blocks from the zone's start, and else 0.
+    /// The write pointer of an empty or active zone, in blocks from the zone's start, or else 0.
     pub pointer: u64,
 }

@@ -8,7 +8,7 @@ use drive_rules::Deed;
 use zns_types::Geometry;
 use zone_descriptor::read;
 
-/// Nothing is known.
+/// The shadow of a zone of which nothing is known.
 pub(crate) const UNKNOWN: Shadow = Shadow {
     stage: Stage::Unknown,
     window: false,
@@ -27,8 +27,7 @@ const FULL: Shadow = Shadow {
     pointer: 0,
 };
 
-// Whether a zone in a stage has a random write area, which bit 3 of its attributes says of an active
-// one.
+// Whether a zone has a random write area. Bit 3 of its attributes says so if it is active.
 fn has_window(stage: Stage, attributes: u8) -> bool
     ensures { result ≡ (is_active_stage stage && (attributes / 8 == 1)) }
 {
@@ -38,7 +37,7 @@ fn has_window(stage: Stage, attributes: u8) -> bool
     }
 }
 
-/// The shadow of a zone by its descriptor.
+/// The shadow of a zone, from its descriptor.
 pub(crate) fn shadow_shown(g: &Geometry, zone: u32, bytes: &[u8; 64]) -> Shadow
     requires { zone < g.now.fields.zones }
     ensures exact { result ≡ shadow_shown g.now.fields zone bytes.now }
@@ -53,7 +52,7 @@ pub(crate) fn shadow_shown(g: &Geometry, zone: u32, bytes: &[u8; 64]) -> Shadow
     Shadow::new(stage, window, offset.min(g.fields().capacity))
 }
 
-// The least multiple of the granule from an offset on, and 0 where there is no granule.
+// The least multiple of the granule at or after an offset, or 0 if there is no granule.
 fn granule_from(g: &Geometry, offset: u64) -> u64
     requires { offset < 2 ^ 33 }
     ensures { result ≡ least_multiple g.now.fields.granule offset }
@@ -66,7 +65,7 @@ fn granule_from(g: &Geometry, offset: u64) -> u64
 }
 
 impl Shadow {
-    // A shadow in a stage. It has a pointer only where the zone has one.
+    // A shadow in a stage. It has a pointer only if the zone has one.
     fn new(stage: Stage, window: bool, pointer: u64) -> Shadow
         ensures exact { result ≡ shadow_at stage window pointer }
         ensures within { result.pointer ≤ pointer }
@@ -83,7 +82,7 @@ impl Shadow {
         }
     }
 
-    // An active zone with its pointer at an offset, or a full one.
+    // An active zone with its pointer at an offset, or a full one if that is the capacity.
     fn filled_to(g: &Geometry, window: bool, pointer: u64) -> Shadow
         ensures exact { result ≡ filled_to g.now.fields window pointer }
         ensures plain { IsShadow g.now.fields result }
@@ -98,7 +97,7 @@ impl Shadow {
         }
     }
 
-    // The pointer after a write of so many blocks from an offset on.
+    // The pointer after a write of `blocks` blocks from the offset `from` on.
     fn pointer_after(self, g: &Geometry, from: u64, blocks: u32) -> u64
         requires plain { IsShadow g.now.fields self }
         requires offset { from < g.now.fields.zone_size }

@@ -6,7 +6,7 @@ use zns_types::State;
 /// What a host knows of the state of a zone.
 #[derive(Clone, Copy, Debug, PartialEq, Eq)]
 pub enum Stage {
-    /// No report told it, or a command failed since.
+    /// No report has told the state, or a command failed since.
     Unknown,
     Empty,
     /// Opened, implicitly or explicitly, or Closed.

@@ -43,7 +43,7 @@ fn active(window: bool, pointer: u64) -> Shadow {
     }
 }
 
-// A host of a new drive with room for so many commands.
+// A host of a new drive with room for `room` commands.
 fn host_of(alloc: Global, room: u32) -> Result<Host<LoopLink>, Fail>
     requires { room ≤ 262144 }
     ensures { IfOk result (λ h. h.geometry ≡ FIELDS) }
@@ -53,7 +53,7 @@ fn host_of(alloc: Global, room: u32) -> Result<Host<LoopLink>, Fail>
     Ok(Host::new(alloc, LoopLink::new(drive), g)?)
 }
 
-// Host data of so many blocks.
+// Host data of `count` blocks.
 fn blocks(alloc: Global, count: u32) -> Result<Bytes, NoMemory>
     requires some { 1 ≤ count }
     requires few { count ≤ 48 }
@@ -70,7 +70,7 @@ fn refusal(answer: &Result<Option<Done>, HostErr>) -> Option<(u8, u8)> {
     }
 }
 
-// Sends the oldest command, and gives the number of the block that an append wrote first.
+// Sends the oldest command, and returns the number of the block that an append wrote first.
 fn sent<L: Link>(host: &mut Host<L>, out: &mut [u8; 128]) -> Result<u64, Fail>
     ensures { host.new.geometry ≡ host.old.geometry }
 {
@@ -124,7 +124,7 @@ fn an_append_to_a_window_is_refused(rt: HostRuntime) -> Result<(), Fail> {
 }
 
 // A file system's main loop: zone 0 has a log with a random write area, and zone 1 takes appends
-// until it is full, and is then reset.
+// until it is full and is then reset.
 #[test]
 fn a_file_system_goes_round(rt: HostRuntime) -> Result<(), Fail> {
     let mut host = host_of(rt.alloc(), 16)?;
@@ -176,7 +176,7 @@ fn a_send_that_fails_is_sent_again(rt: HostRuntime) -> Result<(), Fail> {
     Ok(())
 }
 
-// A link to a peer that tells nothing and answers with an entry whose More bit is set.
+// A link that doesn't tell its history, and answers with an entry whose More bit is set.
 #[derive(Drop)]
 struct TornLink {
     geometry: Geometry,

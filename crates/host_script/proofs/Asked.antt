@@ -16,7 +16,7 @@ use Rattle.host_script.specs.declared.line.Line.TheVariants as the_line
 use Rattle.host_script.specs.Lines.{data_of}
 use Rattle.host_script.specs.Scripts.{command_of_line}
 
--- so many blocks are that many
+-- `blocks` blocks of data have that many blocks
 blocks_back : (g : GeometryFields) (blocks byte : ℕ) → blocks_in g (replicate (blocks * block_len g) byte) ≡ blocks
 blocks_back g blocks byte =
     let some : 0 < 2 ^ g.block_exp = pow_pos g.block_exp in

@@ -110,6 +110,6 @@ line_no_event g (the_line.Flush zone last) = refl
 line_no_event g (the_line.Reset zone) = refl
 line_no_event g (the_line.Report zone) = refl
 
--- which is no request of an event
+-- a line's command is no event request
 pub no_event : (g : GeometryFields) (number : ℕ) (l : Line) → IsGeometry g → IsLine g l → is_event_request (command_of (act_of_line g number l)) ≡ false
 no_event g number l valid is = ap is_event_request (command_of-line g number l valid is) ∙ line_no_event g l

@@ -48,7 +48,7 @@ pub script_passed : (bytes : List ℕ) → first_holding (header_rows bytes) ≡
 unfolding script_rows
 script_passed bytes h k f = first_holding-append_none (header_rows bytes) (host_rows bytes ++ rest_rows bytes) h ∙ first_holding-append_none (host_rows bytes) (rest_rows bytes) k ∙ f
 
--- ---- where no rule is broken
+-- ---- if no rule is broken
 
 -- what was read is a script
 pub record WasScript (bytes : List ℕ) (s : Scripted) : Type 0 where

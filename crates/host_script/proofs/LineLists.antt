@@ -17,7 +17,7 @@ use Rattle.host_script.specs.Spelling.{sent_by_lines}
 use Rattle.host_script.specs.ScriptRules.{sent_by, line_rows, lines_rows}
 use Rattle.host_script.proofs.SpelledLines.{SpellsLine, line_in-spelled, line_in-text, no_feed_in_line}
 
--- ---- where no rule is broken, the texts are those of lines
+-- ---- if no rule is broken, the texts are those of lines
 
 pub record AreLines (g : GeometryFields) (number before : ℕ) (texts : List (List ℕ)) (lines : List Line) : Type 0 where
   pub spelled : flat_map line_text lines ≡ concat texts
@@ -67,7 +67,7 @@ passes (l ∷ lines) g number at sent valid are count small =
       read = rw is (ap (λ (more : List Line). l ∷ more) rest.read);
     }
 
--- the lines of a text that is put together of them
+-- the lines of a text that is made up of the lines' texts
 pub lines_in-texts : (lines : List Line) (g : GeometryFields) → IsGeometry g → AllByRecursion (IsLine g) lines → lines_in (flat_map line_text lines) ≡ map line_text lines
 lines_in-texts [] g valid are = refl
 lines_in-texts (l ∷ lines) g valid are =

@@ -1,4 +1,4 @@
--- One line more of those that are read one after the other.
+-- One more of the lines that are read one after another.
 use Rattle.std.proofs.Common.{◌≡◌, ℕ, ◌+◌, ◌-◌, ◌<◌, ◌≤◌, List, [], ◌∷◌, ◌++◌, length, take, drop, Option, Some, None, refl, sym, ap, ◌∙◌, arith, append_assoc}
 use Rattle.std.specs.List.{filter_map}
 use Rattle.std.proofs.lemmas.List.{length-drop, drop-drop}
@@ -79,12 +79,12 @@ rows-broken g number at sent bytes (Bad reason offset) lt b =
 rows-broken g number at sent bytes (Large which count) lt b =
     ap first_holding (opened g number at sent bytes lt) ∙ first_holding-append_some (line_rows g number at sent (line_at at bytes)) _ (Large which count) b
 
--- and none that is left
+-- and no rule is left to break at the end
 pub rows-all : (g : GeometryFields) (number at sent : ℕ) (bytes : List ℕ) → length bytes ≤ at → first_holding (lines_rows g number at sent (lines_from at bytes)) ≡ None
 unfolding lines_rows
 rows-all g number at sent bytes le = ap (λ (texts : List (List ℕ)). first_holding (lines_rows g number at sent texts)) (lines_from-end at bytes le)
 
--- the first rule that is broken is the same by another table with the same answer
+-- tables that have the same answer have the same first rule that is broken
 pub first_of-same : (e : FileErr) (rows other : List (Row FileErr)) → first_holding rows ≡ first_holding other → IsFirstOf rows e → IsFirstOf other e
 first_of-same NoMemory rows other same b = tt
 first_of-same (Bad reason offset) rows other same b = sym same ∙ b

@@ -34,7 +34,7 @@ use Rattle.host_script.proofs.Commands.{command_of-line, no_event}
 
 -- ---- the ring
 
--- a command that is put where none waits is the one that waits
+-- a command that is put into an empty ring is the one that waits
 pub put-ring : (h : Hosted LoopLink) (k : Cmd) (payload : List ℕ) → h.ring ≡ [] → 1 ≤ h.geometry.depth → (after_put h k payload).ring ≡ act_for k h.next payload ∷ []
 put-ring h k payload none some =
     let empty : length h.ring ≡ 0 = ap (λ (ring : List Act). length ring) none in
@@ -53,13 +53,13 @@ by_success : (ok : Bool) (done : Done) (s : Status) → (outcome : Outcome) × (
 by_success true done s = (Ok done, refl)
 by_success false done s = (Err s, refl)
 
--- what a told history says of a command is what it comes to
+-- what a told history says of a command is its outcome
 pub told-outcome : (g : GeometryFields) (h : List Place) (a : Act) (given : Result (Option Done) HostErr) → given ≡ pumped (verdict_told g h a) → IsOutcome given
 told-outcome g h a given is =
     let found = by_success (is_success (status g h a)) _ (status g h a) in
     record { outcome = found.0; same = is ∙ ap pumped found.1 }
 
--- the one outcome of an answer
+-- an answer has one outcome
 verdict_back : (v w : Result Done HostErr) → pumped v ≡ pumped w → v ≡ w
 verdict_back (Ok d) (Ok e) is = let same : d ≡ e = cc in ap (λ (x : Done). Ok x) same
 verdict_back (Ok d) (Err e) is = absurd cc
@@ -116,12 +116,12 @@ some_waits ring a one none = absurd cc
 
 -- ---- what is written
 
--- the block that the result names stands in the act's own entry
+-- the block that the result names is in the act's own entry
 lba-first : (entries : List Cqe) (own : Cqe) → slice_get entries 0 ≡ Some own → lba_of entries ≡ own.dw0 + 2 ^ 32 * own.dw1
 lba-first [] own e = absurd (cc e)
 lba-first (c ∷ entries) own e = let same : c ≡ own = cc in ap (λ (x : Cqe). x.dw0 + 2 ^ 32 * x.dw1) same
 
--- all of the room is the report that was read
+-- the report that was read fills the room
 report-read : (g : GeometryFields) (h : List Place) (number zone : ℕ) (out : List ℕ) → IsGeometry g → zone < g.zones → length out ≡ 128 → is_success (status g h (act_of_line g number (the_line.Report zone))) ≡ true
     → take (length (reply_bytes g h (act_of_line g number (the_line.Report zone)))) out ≡ reply_bytes g h (act_of_line g number (the_line.Report zone)) → out ≡ reply_bytes g h (act_of_line g number (the_line.Report zone))
 report-read g h number zone out valid lt room ok read =
@@ -130,7 +130,7 @@ report-read g h number zone out valid lt room ok read =
     let long : length (reply_bytes g h a) ≡ 128 = ap (λ (bytes : List ℕ). length bytes) reply ∙ length-report 128 0 true (drop (zone_of g (first g zone)) (descriptors g h)) in
     sym (take-length out) ∙ ap (λ (n : ℕ). take n out) (room ∙ sym long) ∙ read
 
--- what the line of a command says that was done
+-- what is written for a command that was done
 done-answers : (g : GeometryFields) (h : List Place) (number : ℕ) (l : Line) (out : List ℕ) → IsGeometry g → IsLine g l → length out ≡ 128 → is_success (status g h (act_of_line g number l)) ≡ true
     → take (length (reply_bytes g h (act_of_line g number l))) out ≡ reply_bytes g h (act_of_line g number l) → (lba : ℕ) → done_line g l lba out ≡ done_line g l lba (reply_bytes g h (act_of_line g number l))
 done-answers g h number (the_line.Report zone) out valid is room ok read lba = ap (done_line g (the_line.Report zone) lba) (report-read g h number zone out valid is room ok read)

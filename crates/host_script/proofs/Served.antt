@@ -1,4 +1,4 @@
--- One line more of those that are served one after the other.
+-- One more of the lines that are served one after another.
 use Rattle.std.proofs.Common.{◌≡◌, ℕ, ◌+◌, List, [], ◌∷◌, ◌++◌, length, refl, sym, ap, ◌∙◌, length-append}
 use Rattle.std.proofs.lemmas.List.{append_assoc, append-nil}
 use Rattle.zns_types.specs.declared.fields.GeometryFields.{GeometryFields}
@@ -21,7 +21,7 @@ none_written g acts none = record {
   more = λ rest. ap (λ (h : List Place). scripted_after g h 0 rest) (ap (answered g) none ∙ answered-none g);
 }
 
--- one line more was answered, and its answer was written
+-- one more line was answered, and its answer was written
 pub more_written : (g : GeometryFields) (acts after : List Act) (given : List Line) (l : Line) (text now : List ℕ) → length acts ≡ length given
     → after ≡ acts ++ act_of_line g (length acts) l ∷ [] → now ≡ text ++ answer_line g (answered g acts) (length acts) l
     → ((rest : List Line) → text ++ scripted_after g (answered g acts) (length given) rest ≡ scripted_after g [] 0 (given ++ rest))
@@ -41,7 +41,7 @@ more_written g acts after given l text now count acts_are text_is before rest =
     ∙ before (l ∷ rest)
     ∙ ap (λ (lines : List Line). scripted_after g [] 0 lines) (sym (append_assoc given (l ∷ []) rest))
 
--- where no line follows, all is written
+-- if no line follows, all is written
 pub all_written : (g : GeometryFields) (acts : List Act) (given : List Line) (text : List ℕ)
     → ((rest : List Line) → text ++ scripted_after g (answered g acts) (length given) rest ≡ scripted_after g [] 0 (given ++ rest)) → text ≡ scripted g given
 unfolding scripted

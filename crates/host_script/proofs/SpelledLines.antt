@@ -1,4 +1,4 @@
--- A text spells a line exactly where it is the line's text.
+-- A text spells a line if and only if it is the line's text.
 use Rattle.std.proofs.Common.{◌≡◌, ℕ, ◌^◌, ◌<◌, ◌≤◌, Bool, true, false, cond, List, [], ◌∷◌, ◌++◌, take, Option, Some, None, refl, sym, ap, ◌∙◌, subst, arith, codes}
 use Rattle.std.specs.Prelude.{◌↔◌}
 use Rattle.std.specs.Fmt.{decimal}
@@ -57,7 +57,7 @@ four_of f (Some a) n k j l e = record { a = a; first = refl; rest = three_of (f 
 
 -- ---- words name a line
 
--- the words are those of the line, and its numbers are the drive's
+-- the words are those of the line, and its numbers are in the drive's ranges
 record Names (g : GeometryFields) (words : List (List ℕ)) (l : Line) : Type 0 where
   same : words ≡ words_of l
   is : IsLine g l
@@ -146,7 +146,7 @@ line_of-names g (letter ∷ place ∷ blocks ∷ byte ∷ []) l e = three_named 
 line_of-names g (letter ∷ zone ∷ offset ∷ blocks ∷ byte ∷ []) l e = four_named g letter zone offset blocks byte l _ refl e
 line_of-names g (letter ∷ a ∷ b ∷ c ∷ d ∷ f ∷ words) l e = absurd cc
 
--- ---- and the other way round
+-- ---- a line is named by its words
 
 with_three_of : (f : ℕ → ℕ → ℕ → Line) (m n k : Option ℕ) (a b c : ℕ) → m ≡ Some a → n ≡ Some b → k ≡ Some c → with_three f m n k ≡ Some (f a b c)
 with_three_of f m n k a b c p q r = rw (p, q, r) refl
@@ -188,7 +188,7 @@ record FrontWords (l : Line) : Type 0 where
 blocks_small : (n : ℕ) → n ≤ 65536 → n < 2 ^ 64
 blocks_small n few = omega arith
 
--- each word of a line is one
+-- each word of a line is a word
 front_words : (g : GeometryFields) (l : Line) → IsGeometry g → IsLine g l → FrontWords l
 front_words g (the_line.Write lba blocks byte) valid is =
     record { word = codes "w"; more = decimal lba ∷ decimal blocks ∷ decimal byte ∷ []; same = refl; are = (((refl, refl), tt), (decimal_is_word lba is.0, (decimal_is_word blocks (blocks_small blocks is.1.few), (decimal_is_word byte (let lt = is.1.byte in omega arith), tt)))) }

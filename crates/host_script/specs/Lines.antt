@@ -18,7 +18,7 @@ pub record IsData (blocks value : ℕ) : Type 0 where
   pub few : blocks ≤ 65536
   pub byte : value < 2 ^ 8
 
--- its zone, and the offsets in it, are the drive's; a block of the namespace may be any number of 64 bits
+-- the zone of a line, and the offsets in it, are the drive's; a block of the namespace may be any number of 64 bits
 abbrev pub IsLine : GeometryFields → Line → Type 0
 IsLine g (the_line.Write lba blocks byte) = (lba < 2 ^ 64) × IsData blocks byte
 IsLine g (the_line.Append zone blocks byte) = (zone < g.zones) × IsData blocks byte
@@ -73,7 +73,7 @@ abbrev pub as_blocks : Option ℕ → Option ℕ
 as_blocks None = None
 as_blocks (Some n) = if nat_le 1 n && nat_le n 65536 then Some n else None
 
--- a line, where each of its numbers is one
+-- a line, if each of its numbers is one
 abbrev pub with_one : (ℕ → Line) → Option ℕ → Option Line
 with_one f None = None
 with_one f (Some m) = Some (f m)
@@ -110,23 +110,23 @@ line_of_one g letter zone =
     else if bytes_eq letter (codes "d") then with_one the_line.Report (zone_in g zone)
     else None
 
--- of two
+-- the line of a letter and two numbers
 abbrev pub line_of_two : GeometryFields → List ℕ → List ℕ → List ℕ → Option Line
 line_of_two g letter zone last = if bytes_eq letter (codes "f") then with_two the_line.Flush (zone_in g zone) (offset_in g last) else None
 
--- of three
+-- the line of a letter and three numbers
 abbrev pub line_of_three : GeometryFields → List ℕ → List ℕ → List ℕ → List ℕ → Option Line
 line_of_three g letter place blocks byte =
     if bytes_eq letter (codes "w") then with_three the_line.Write (number_in place) (blocks_in blocks) (byte_in byte)
     else if bytes_eq letter (codes "a") then with_three the_line.Append (zone_in g place) (blocks_in blocks) (byte_in byte)
     else None
 
--- and of four
+-- the line of a letter and four numbers
 abbrev pub line_of_four : GeometryFields → List ℕ → List ℕ → List ℕ → List ℕ → List ℕ → Option Line
 line_of_four g letter zone offset blocks byte =
     if bytes_eq letter (codes "p") then with_four the_line.Put (zone_in g zone) (offset_in g offset) (blocks_in blocks) (byte_in byte) else None
 
--- the line of words
+-- the line that words spell
 unfoldable pub line_of : GeometryFields → List (List ℕ) → Option Line
 line_of g (letter ∷ zone ∷ []) = line_of_one g letter zone
 line_of g (letter ∷ zone ∷ last ∷ []) = line_of_two g letter zone last

@@ -1,4 +1,4 @@
--- The rules of a script's bytes, in their order: each with what is said where it is broken.
+-- The rules of a script's bytes, in their order, each with the error that is given if it is broken.
 use Rattle.std.specs.Prelude.{ℕ, ◌+◌, ◌^◌, not, ◌==◌, nat_lt, nat_le, List, [], ◌∷◌, ◌++◌, length, drop, is_some, Option, Some, None}
 use Rattle.zns_types.specs.declared.fields.GeometryFields.{GeometryFields}
 use Rattle.zns_types.specs.Rows.{Row}
@@ -23,7 +23,7 @@ abbrev pub sent_by : GeometryFields → Option Line → ℕ
 sent_by g None = 0
 sent_by g (Some l) = data_len g l
 
--- The text of the line with a number, from 0, which begins at an offset. The lines before it send so many bytes.
+-- The rules of the text of the line `number`, from 0, which begins at the offset `at`. The lines before it send `sent` bytes of host data.
 unfoldable pub line_rows : GeometryFields → ℕ → ℕ → ℕ → List ℕ → List (Row FileErr)
 line_rows g number at sent text =
     large which.Commands 262145 (nat_le 262144 number)
@@ -31,11 +31,11 @@ line_rows g number at sent text =
     ∷ large which.Sent (sent + sent_by g (line_in g text)) (nat_lt (2 ^ 27) (sent + sent_by g (line_in g text)))
     ∷ []
 
--- the texts of lines one after the other, of which the first has this number and begins at this offset
+-- the rules of the texts of lines one after another, the first of which has this number and begins at this offset
 unfoldable pub lines_rows : GeometryFields → ℕ → ℕ → ℕ → List (List ℕ) → List (Row FileErr)
 lines_rows g number at sent [] = []
 lines_rows g number at sent (text ∷ texts) = line_rows g number at sent text ++ lines_rows g (number + 1) (at + length text) (sent + sent_by g (line_in g text)) texts
 
--- all of it
+-- the rules of all of a script's bytes
 unfoldable pub script_rows : List ℕ → List (Row FileErr)
 script_rows bytes = header_rows bytes ++ (host_rows bytes ++ lines_rows (geometry_in bytes) 0 64 0 (lines_in (drop 64 bytes)))

@@ -48,7 +48,7 @@ lba_of (c ∷ entries) = c.dw0 + 2 ^ 32 * c.dw1
 abbrev pub flag : Bool → List ℕ
 flag b = if b then codes "1" else codes "0"
 
--- a pointer's field as an offset in its zone; all ones are none
+-- a pointer field as an offset in its zone; all ones mean that there is none
 abbrev pub offset_text : ℕ → ℕ → List ℕ
 offset_text start place = if place == 2 ^ 64 - 1 then codes "-" else decimal (place - start)
 
@@ -61,11 +61,11 @@ descriptor_line g zone descriptor = line (
     ∷ offset_text (first g zone) (field 24 8 descriptor)
     ∷ [])
 
--- the line of a report of one zone, whose descriptor stands after a head of 64 bytes
+-- the line of a report of one zone, whose descriptor follows a head of 64 bytes
 abbrev pub report_line : GeometryFields → ℕ → List ℕ → List ℕ
 report_line g zone report = descriptor_line g zone (drop 64 report)
 
--- a line that succeeded, by the block that the result names, and by what was read
+-- the answer to a line that succeeded, from the block that the result names and from what was read
 abbrev pub done_line : GeometryFields → Line → ℕ → List ℕ → List ℕ
 done_line g (the_line.Append zone blocks byte) lba read = line (codes "ok" ∷ decimal lba ∷ [])
 done_line g (the_line.Report zone) lba read = report_line g zone read
@@ -81,7 +81,7 @@ line_for g l s entries read = if is_success s then done_line g l (lba_of entries
 abbrev pub answer_line : GeometryFields → List Place → ℕ → Line → List ℕ
 answer_line g h number l = line_for g l (status g h (act_of_line g number l)) (posted g h (act_of_line g number l)) (reply_bytes g h (act_of_line g number l))
 
--- what is written for lines after a history, of which the first has this number
+-- what is written for lines after a history, the first of which has this number
 abbrev pub scripted_after : GeometryFields → List Place → ℕ → List Line → List ℕ
 scripted_after g h number [] = []
 scripted_after g h number (l ∷ lines) = answer_line g h number l ++ scripted_after g (and_then g h (act_of_line g number l)) (number + 1) lines

@@ -14,11 +14,11 @@ use Rattle.host_library.specs.Pumping.{verdict_told, pumped}
 use Rattle.host_script.specs.declared.line.Line.{Line}
 use Rattle.host_script.specs.Scripts.{done_line, refused_line}
 
--- what a command comes to: it was done, or refused with a status
+-- the outcome of a command: it was done, or refused with a status
 abbrev pub Outcome : Type 0
 Outcome = Result Done Status
 
--- the answer of a host that says so
+-- what comes of a command with this outcome
 abbrev pub verdict_of_outcome : Outcome → Result Done HostErr
 verdict_of_outcome (Ok done) = Ok done
 verdict_of_outcome (Err s) = Err (error.Refused s)
@@ -26,26 +26,26 @@ verdict_of_outcome (Err s) = Err (error.Refused s)
 abbrev pub answer_of : Outcome → Result (Option Done) HostErr
 answer_of outcome = pumped (verdict_of_outcome outcome)
 
--- a host's answer says what a command comes to
+-- a host's answer gives the outcome of a command
 pub record IsOutcome (given : Result (Option Done) HostErr) : Type 0 where
   pub outcome : Outcome
   pub same : given ≡ answer_of outcome
 
--- what is written for a line, by what its command comes to and by what was read
+-- what is written for a line, from the outcome of its command and from what was read
 abbrev pub outcome_line : GeometryFields → Line → Outcome → List ℕ → List ℕ
 outcome_line g l (Ok done) read = done_line g l (done.dw0 + 2 ^ 32 * done.dw1) read
 outcome_line g l (Err s) read = refused_line s
 
--- the acts that the drive behind a host has served
+-- the acts that a host's drive has served
 abbrev pub acts_of_host : Hosted LoopLink → List Act
 acts_of_host h = h.link.drive.acts
 
--- Between two lines no command waits, and the next one's number is that of the drive's acts.
+-- Between two lines no command waits, and the number of the next one is the number of the drive's acts.
 pub record IsIdle (h : Hosted LoopLink) : Type 0 where
   pub ring : h.ring ≡ []
   pub next : h.next ≡ length (acts_of_host h) % 2 ^ 16
 
--- The one command that waited was sent, and this is what it came to and what it read.
+-- The one command that waited was sent, with this outcome, and this is what it read.
 pub record IsSent (before after : Hosted LoopLink) (a : Act) (outcome : Outcome) (out : List ℕ) : Type 0 where
   pub ring : after.ring ≡ []
   pub next : after.next ≡ before.next

@@ -1,4 +1,4 @@
--- A script: the header of a session without commands, and then lines.
+-- A script: the header of a session without commands, followed by lines.
 use Rattle.std.specs.Prelude.{ℕ, ◌+◌, ◌^◌, ◌≤◌, List, [], ◌∷◌, ◌++◌, length, All}
 use Rattle.std.specs.List.{flat_map}
 use Rattle.zns_types.specs.declared.fields.GeometryFields.{GeometryFields}
@@ -6,7 +6,7 @@ use Rattle.zone_model.specs.Sessions.{Recorded, IsSession, spelling}
 use Rattle.host_script.specs.declared.line.Line.{Line}
 use Rattle.host_script.specs.Lines.{IsLine, data_len, line_text}
 
--- a drive's numbers, and lines
+-- a drive's geometry, and lines
 pub record Scripted : Type 0 where
   pub geometry : GeometryFields
   pub lines : List Line

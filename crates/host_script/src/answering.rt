@@ -1,4 +1,4 @@
-//! What is written for a line.
+//! Writing the answer to a line.
 ghost use Rattle.std.specs.Prelude.{◌≡◌, ◌+◌, ◌*◌, ◌^◌, ◌<◌, ◌++◌, false, OnOk, length, slice_index};
 ghost use Rattle.std.specs.Fmt.{digits};
 ghost use Rattle.std.specs.String.{string_bytes};
@@ -15,7 +15,7 @@ use std::alloc::Global;
 use zns_io::NoMemory;
 use zns_types::{Code, Geometry};
 
-// A pointer's field as an offset from a zone's first block. All ones stand for none.
+// Writes a pointer field as an offset from a zone's first block. All ones mean that there is none.
 fn put_offset(text: &mut String, first: u64, field: u64) -> Result<(), NoMemory>
     ensures { OnOk result (string_bytes text.new
         ≡ string_bytes text.old ++ offset_text first field) }
@@ -28,7 +28,7 @@ fn put_offset(text: &mut String, first: u64, field: u64) -> Result<(), NoMemory>
     Ok(())
 }
 
-// The state that a descriptor shows, as a hexadecimal digit.
+// Writes the state that a descriptor shows, as a hexadecimal digit.
 fn put_state(text: &mut String, descriptor: &[u8]) -> Result<(), NoMemory>
     requires { length descriptor.now ≡ 64 }
     ensures { OnOk result (string_bytes text.new
@@ -51,7 +51,7 @@ fn window_in(descriptor: &[u8]) -> &'static str
     }
 }
 
-// The pointer's field of a descriptor.
+// The pointer field of a descriptor.
 fn pointer_in(descriptor: &[u8]) -> u64
     requires { length descriptor.now ≡ 64 }
     ensures { result ≡ field 24 8 descriptor.now }
@@ -59,7 +59,7 @@ fn pointer_in(descriptor: &[u8]) -> u64
     LittleEndian::read_u64(&descriptor[24..])
 }
 
-// The line of a zone that shows this descriptor.
+// Writes the line of a zone with this descriptor.
 fn put_descriptor(
     text: &mut String,
     g: &Geometry,
@@ -80,7 +80,7 @@ fn put_descriptor(
     Ok(())
 }
 
-// The line of a report of one zone, whose descriptor stands after the report's head of 64 bytes.
+// Writes the line of a report of one zone, whose descriptor follows the report's head of 64 bytes.
 fn put_report(text: &mut String, g: &Geometry, zone: u32, report: &[u8]) -> Result<(), NoMemory>
     requires zone { zone < g.now.fields.zones }
     requires whole { length report.now ≡ 128 }
@@ -90,7 +90,7 @@ fn put_report(text: &mut String, g: &Geometry, zone: u32, report: &[u8]) -> Resu
     put_descriptor(text, g, zone, &report[64..])
 }
 
-// The line of a command that was done, by its result and by what it read.
+// Writes the line of a command that was done, from its result and from what it read.
 fn put_done(
     text: &mut String,
     g: &Geometry,
@@ -117,7 +117,7 @@ fn put_done(
     }
 }
 
-// The line of a command that was refused.
+// Writes the line of a command that was refused.
 fn put_refused(alloc: Global, text: &mut String, code: Code) -> Result<(), NoMemory>
     ensures { OnOk result (string_bytes text.new ≡ string_bytes text.old ++ refused_line code) }
 {
@@ -126,8 +126,8 @@ fn put_refused(alloc: Global, text: &mut String, code: Code) -> Result<(), NoMem
     Ok(())
 }
 
-/// Puts the line of a command at the end of a text: what was done and what was read, or the status
-/// of a refusal.
+/// Writes the line of a command at the end of a text: what was done and what was read, or the
+/// status of a refusal.
 pub(crate) fn put_outcome(
     alloc: Global,
     text: &mut String,

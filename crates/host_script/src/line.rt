@@ -3,10 +3,10 @@ ghost use Rattle.host_script.specs.Lines.{IsLine, blocks_of, byte_of, data_len};
 
 use zns_types::Geometry;
 
-/// A line of a script: one command of a host. Data is so many blocks that repeat a byte.
+/// A line of a script: one command of a host. Its data is `blocks` blocks that repeat `byte`.
 #[derive(Clone, Copy, Debug, PartialEq, Eq)]
 pub enum Line {
-    /// Write data from a block of the namespace on.
+    /// Write data from the block `lba` of the namespace on.
     Write {
         lba: u64,
         blocks: u32,
@@ -20,7 +20,7 @@ pub enum Line {
         byte: u8,
     },
 
-    /// Write data into a zone's random write area, from an offset in the zone on.
+    /// Write data into a zone's random write area, from the offset `offset` in the zone on.
     Put {
         zone: u32,
         offset: u64,
@@ -33,7 +33,7 @@ pub enum Line {
         zone: u32,
     },
 
-    /// Commit a zone's random write area, up to the block at an offset.
+    /// Commit a zone's random write area, up to the block at the offset `last`.
     Flush {
         zone: u32,
         last: u64,
@@ -51,7 +51,7 @@ pub enum Line {
 }
 
 impl Line {
-    // The blocks of its data.
+    // The number of blocks of its data.
     fn blocks(self) -> u32
         ensures { result ≡ blocks_of self }
     {
@@ -63,7 +63,7 @@ impl Line {
         }
     }
 
-    /// The byte that its data repeats.
+    /// The byte that its data repeats, or 0 if it has no data.
     pub fn byte(self) -> u8
         ensures { result ≡ byte_of self }
     {
@@ -73,7 +73,7 @@ impl Line {
         }
     }
 
-    /// The bytes of its data.
+    /// The length of its data, in bytes.
     pub fn data_len(self, g: &Geometry) -> u32
         requires { IsLine g.now.fields self }
         ensures exact { result ≡ data_len g.now.fields self }

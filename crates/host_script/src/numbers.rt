@@ -30,7 +30,7 @@ pub(crate) fn offset_in(g: &Geometry, word: &[u8]) -> Option<u64>
     below(g.fields().zone_size, word)
 }
 
-/// The number of blocks that a word names.
+/// The number of blocks, from 1 to 65,536, that a word names.
 pub(crate) fn blocks_in(word: &[u8]) -> Option<u32>
     ensures { result ≡ blocks_in word.now }
 {

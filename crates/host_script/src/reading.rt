@@ -19,13 +19,13 @@ use zns_types::Geometry;
 // The most lines of a script.
 const MOST_LINES: u32 = 262_144;
 
-// The most bytes of host data that the lines of a script send.
+// The most bytes of host data that a script's lines send.
 const MOST_SENT: u64 = 1 << 27;
 
-// A host needs a queue beside the first.
+// A host needs a queue besides the admin queue.
 const FEWEST_QUEUES: u16 = 2;
 
-// How far a script was read.
+// How far a script has been read.
 #[derive(Clone, Copy)]
 struct Progress {
     // The number of the next line, from 0.
@@ -38,7 +38,7 @@ struct Progress {
     sent: u64,
 }
 
-// Something is wrong at an offset.
+// The error that something is wrong at an offset.
 fn bad(reason: Reason, offset: usize) -> FileErr
     ensures { result ≡ FileErr.Bad reason offset }
 {
@@ -48,7 +48,8 @@ fn bad(reason: Reason, offset: usize) -> FileErr
     }
 }
 
-// Whether a session's header is a script's: a host needs two queues, and commands come as lines.
+// Checks that a session's header is a script's: a host needs two queues, and commands come as
+// lines.
 #[tactic(auto, unfolding(crate::specs::ScriptRules::host_rows))]
 fn check_header(bytes: &[u8], header: &Header) -> Result<(), FileErr>
     requires geometry { header.now.geometry.fields ≡ geometry_in bytes.now }
@@ -65,7 +66,7 @@ fn check_header(bytes: &[u8], header: &Header) -> Result<(), FileErr>
     Ok(())
 }
 
-// The line of a text and how far it leads, or the first of its rules that is broken.
+// The line of a text and the progress after it, or the first of its rules that is broken.
 #[tactic(auto, unfolding(crate::specs::ScriptRules::line_rows))]
 fn check_line(
     alloc: Global,
@@ -136,7 +137,7 @@ fn read_lines(alloc: Global, g: &Geometry, bytes: &[u8]) -> Result<Vec<Line>, Fi
     Ok(lines)
 }
 
-/// The script of bytes. An error names the first rule that is broken.
+/// Reads a script from its bytes. An error names the first rule that is broken.
 pub fn read(alloc: Global, bytes: &[u8]) -> Result<Script, FileErr>
     ensures script { IfOk result IsScript }
     ensures spelled { IfOk result (λ s. bytes.now ≡ script_text s) }

@@ -5,7 +5,7 @@ use crate::line::Line;
 use std::marker::Model;
 use zns_types::Geometry;
 
-/// A drive's numbers and the lines of a script, as one file can hold them: the drive has at least
+/// A drive's geometry and the lines of a script, as one file can hold them: the drive has at least
 /// two queues, and there are at most 262,144 lines, which send at most 2^27 bytes together.
 #[derive(Drop)]
 pub struct Script {
@@ -27,7 +27,7 @@ impl Model for Script {
 }
 
 impl Script {
-    /// The script of lines on a drive.
+    /// The script of these lines on a drive.
     pub fn new(geometry: Geometry, lines: Vec<Line>) -> Script
         requires { IsScript (record { geometry = geometry.fields; lines = lines.items }) }
         ensures { result ≡ record { geometry = geometry.fields; lines = lines.items } }

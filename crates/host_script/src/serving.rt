@@ -1,4 +1,4 @@
-//! Serving a script: each of its lines is one command, which is sent and answered before the next.
+//! Serving a script: each line is one command, which is sent and answered before the next.
 ghost use Rattle.std.specs.Prelude.{◌≡◌, ◌+◌, ◌<◌, ◌≤◌, ◌++◌, [], ◌∷◌, All, IfOk, OnOk, length};
 ghost use Rattle.std.specs.String.{string_bytes};
 ghost use Rattle.zone_model.specs.declared.act.Act.{Act};
@@ -17,7 +17,7 @@ use std::alloc::Global;
 use zns_io::{Bytes, NoMemory};
 use zns_types::{Code, Geometry};
 
-// Puts the command of a line into the ring, where none waits. So it gets a number.
+// Puts the command of a line into the empty ring, so that it gets a number.
 fn ask(alloc: Global, host: &mut Host<LoopLink>, g: &Geometry, line: Line) -> Result<(), NoMemory>
     requires geometry { host.old.geometry ≡ g.now.fields }
     requires line { IsLine g.now.fields line }
@@ -37,7 +37,7 @@ fn ask(alloc: Global, host: &mut Host<LoopLink>, g: &Geometry, line: Line) -> Re
     Ok(())
 }
 
-// What a command comes to, by the host's answer.
+// The outcome of a command, from the host's answer.
 fn outcome_of(answer: &Result<Option<Done>, HostErr>) -> Result<Done, Code>
     requires { IsOutcome answer.now }
     ensures { answer.now ≡ answer_of result }
@@ -60,7 +60,7 @@ fn send(host: &mut Host<LoopLink>, out: &mut [u8; 128]) -> Result<Done, Code>
     outcome_of(&answer)
 }
 
-// Serves a line, and writes what comes of it.
+// Serves a line, and writes its answer.
 fn serve_line(
     alloc: Global,
     host: &mut Host<LoopLink>,
@@ -87,7 +87,7 @@ fn serve_line(
     put_outcome(alloc, text, g, line, outcome, &out)
 }
 
-// Serves lines in their order, on a new drive with room for them, and writes what comes of each.
+// Serves lines in order, on a new drive with room for them, and returns the text of their answers.
 fn serve_lines(
     alloc: Global,
     host: &mut Host<LoopLink>,
@@ -108,8 +108,8 @@ fn serve_lines(
     Ok(text)
 }
 
-/// What a new drive answers to the lines of a script: a line of text for each. The drive has room
-/// for all of them, so no link fails.
+/// The answers of a new drive to the lines of a script, as a line of text for each. The drive has
+/// room for all of them, so no send fails.
 pub fn serve(alloc: Global, script: Script) -> Result<Bytes, NoMemory>
     ensures { IfOk result (λ text. text ≡ scripted script.geometry script.lines) }
 {

@@ -11,10 +11,10 @@ use text_lines::{number_in, unended, words_in};
 use zns_io::NoMemory;
 use zns_types::Geometry;
 
-// No line has more words. One more is asked for, to see that there are none.
+// One more word than the longest line has, so that longer lines are noticed.
 const MOST_WORDS: usize = 6;
 
-// Whether a word is this one.
+// Whether a word is this text.
 fn is(word: &[u8], text: &[u8]) -> bool
     ensures { result ≡ bytes_eq word.now text.now }
 {
@@ -103,7 +103,7 @@ fn line_of_four(
     })
 }
 
-// The line of words.
+// The line that words spell.
 #[tactic(auto, unfolding(crate::specs::Lines::line_of))]
 fn line_of(g: &Geometry, words: &[&[u8]]) -> Option<Line>
     ensures { result ≡ line_of g.now.fields (map (λ word. word.now) words.now) }

@@ -5,14 +5,15 @@ use std::test::Fail;
 use zns_io::Bytes;
 
 // Four zones of 64 blocks of 512 bytes, of which 48 can be written; at most three active and two
-// opened; one random write area of 8 blocks in granules of 4; two queues of 64 entries; no commands.
+// opened; one random write area of 8 blocks in granules of 4; two queues of 64 entries; no
+// commands.
 const HEADER: [u8; 64] = [
     b'Z', b'N', b'S', b'Q', b'0', b'0', b'0', b'1', 9, 0, 0, 0, 4, 0, 0, 0, 64, 0, 0, 0, 0, 0, 0,
     0, 48, 0, 0, 0, 0, 0, 0, 0, 3, 0, 0, 0, 2, 0, 0, 0, 1, 0, 0, 0, 4, 0, 8, 0, 2, 0, 64, 0, 0, 0,
     0, 0, 0, 0, 0, 0, 0, 0, 0, 0,
 ];
 
-// The script of these lines on that drive.
+// The script of these lines on the drive above.
 fn script(alloc: Global, lines: &str) -> Result<Vec<u8>, Fail> {
     let mut bytes = Vec::from_slice(alloc, &HEADER)?;
     bytes.extend_from_slice(lines.as_bytes())?;
@@ -47,7 +48,7 @@ fn each_kind_of_line_is_answered(rt: HostRuntime) -> Result<(), Fail> {
     Ok(())
 }
 
-// A line has no meaning, and begins at an offset.
+// The error of a line that has no meaning and begins at an offset.
 fn bad_line(offset: u64) -> Option<FileErr> {
     Some(FileErr::Bad {
         reason: Reason::HostLine,

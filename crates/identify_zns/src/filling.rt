@@ -40,7 +40,7 @@ fn fill_controller(g: &Geometry, out: &mut [u8])
     put(out, 516, &1u32.to_le_bytes());
 }
 
-// A limit as a page shows it: less one, and all ones where there is none.
+// A limit as a page shows it: less one, or all ones if there is none.
 fn zero_based(limit: u32) -> u32
     ensures { result ≡ zero_based limit }
 {

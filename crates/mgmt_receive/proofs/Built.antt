@@ -1,4 +1,4 @@
--- A report is its head and the descriptors after it.
+-- A report is its head followed by the descriptors.
 use Rattle.std.proofs.Common.{◌≡◌, ℕ, ◌+◌, ◌*◌, ◌-◌, ◌/◌, ◌≤◌, Bool, cond, Option, List, [], ◌∷◌, ◌++◌, length, take, drop, map, min, refl, sym, ap, ◌∙◌, arith, inl, inr}
 use Rattle.std.specs.Prelude.{filter, replicate}
 use Rattle.byteorder.specs.Endian.{little_bytes}
@@ -24,7 +24,7 @@ short : (len number : ℕ) (ds : List Descriptor) (back : List ℕ) → len ≤ 
 short len number [] back low none is = rw is (append-nil _ ∙ sym (ap (λ (xs : List ℕ). take len (xs ++ replicate len 0)) (append-nil (head_of number)) ∙ take-append-le len (head_of number) (replicate len 0) low))
 short len number (d ∷ ds) back low none is = absurd (omega (arith, none))
 
--- after a text stand as many zeros as are left
+-- after a text come as many zeros as there is room for
 padded : (len : ℕ) (xs : List ℕ) → length xs ≤ len → first_bytes len xs ≡ xs ++ replicate (len - length xs) 0
 padded len xs fits =
     let n = len - length xs in
@@ -38,7 +38,7 @@ long len number given ds back high n fits is =
     let size : length text ≡ 64 + 64 * given = length-append (head_of number) (bytes_of_all ds) ∙ omega (arith, length-bytes ds) in
     rw is (sym (append_assoc (head_of number) (bytes_of_all ds) _) ∙ sym (padded len text (omega (arith, size)) ∙ ap (λ (k : ℕ). text ++ replicate k 0) (omega (arith, size))))
 
--- after the head stands what was put there
+-- after the head comes what was written there
 put_after : (len h : ℕ) (out back : List ℕ) → length out ≡ len → h ≤ len → drop h (put_mid h (len - h) out back) ≡ back
 put_after len h out back size low =
     drop_at (take h out) (back ++ drop (len - h) (drop h out)) h (length-take-le h out (omega (arith, size)))
@@ -62,7 +62,7 @@ joined len h number given ds back h-is n fits is = elim (cases_lt len 64) [
       rw at (long len number given ds back high n fits is)
 ]
 
--- a report tells of the zones that a filter wants
+-- a report lists the zones that a filter matches
 report_is : (len kind : ℕ) (wanted : Option State) (partial : Bool) (ds : List Descriptor) → Wants kind wanted
     → report len kind partial ds ≡ first_bytes len (head_of (cond partial (length (fitting len (filter (λ d. is_wanted wanted d.state) ds))) (length (filter (λ d. is_wanted wanted d.state) ds))) ++ bytes_of_all (fitting len (filter (λ d. is_wanted wanted d.state) ds)))
 report_is len kind wanted partial ds wants =
@@ -86,7 +86,7 @@ built g kind wanted partial cells len h number gave out front back wants size h-
     ∙ ap (λ (k : ℕ). first_bytes len (head_of k ++ bytes_of_all (given_in g wanted cells (len - 64)))) n
     ∙ sym (report_is len kind wanted partial (map (descriptor_of g) cells) wants))
 
--- what stands before a place keeps its length
+-- what comes before a place keeps its length
 pub kept_len : (h k : ℕ) (out back : List ℕ) → h ≤ length out → length (take h (put_mid h k out back)) ≡ h
 kept_len h k out back low =
     let front = length-take-le h out low in

@@ -1,4 +1,4 @@
--- One zone more, and the descriptors that are given.
+-- One more zone, and the descriptors that are given.
 use Rattle.std.proofs.Common.{◌≡◌, ℕ, ◌+◌, ◌*◌, ◌-◌, ◌/◌, ◌<◌, ◌≤◌, Bool, true, false, cond, Option, Some, None, List, [], ◌∷◌, ◌++◌, length, take, drop, map, refl, sym, ap, ◌∙◌, arith, inl, inr}
 use Rattle.std.specs.Prelude.{filter, replicate, is_some}
 use borrow.Rule.Slice.PartMut.{put_mid}
@@ -25,7 +25,7 @@ matching_both g wanted before after =
     ap (filter (λ (d : Descriptor). is_wanted wanted d.state)) (map-append (descriptor_of g) before after)
     ∙ filter-append (λ (d : Descriptor). is_wanted wanted d.state) (map (descriptor_of g) before) (map (descriptor_of g) after)
 
--- a zone more, which is wanted or left out
+-- one more zone, which is wanted or left out
 matching_more : (g : GeometryFields) (wanted : Option State) (before : List Cell) (c : Cell) (b : Bool) → is_wanted wanted c.state ≡ b → matching g wanted (before ++ c ∷ []) ≡ matching g wanted before ++ cond b (descriptor_of g c ∷ []) []
 matching_more g wanted before c b e = matching_both g wanted before (c ∷ []) ∙ rw e refl
 
@@ -46,11 +46,11 @@ gave g wanted before c len given k out new e room k-is new-is was =
           (sym (append_assoc (bytes_of_all ds) (descriptor_bytes d) (replicate (len - 64 * (given + 1)) 0)));
     }
 
--- the descriptors for which so many bytes have room
+-- the descriptors that fit in `len` bytes
 abbrev pub given_in : GeometryFields → Option State → List Cell → ℕ → List Descriptor
 given_in g wanted cells len = take (len / 64) (matching g wanted cells)
 
--- those that are given are all that have room
+-- those that are given are all that fit
 pub given_fit : (g : GeometryFields) (wanted : Option State) (cells : List Cell) (len : ℕ) (gave : Gave) (out : List ℕ) → Begun g wanted cells len gave out → matching g wanted (take gave.seen cells) ≡ given_in g wanted cells len
 given_fit g wanted cells len gave out was =
     let first = matching g wanted (take gave.seen cells) in
@@ -66,7 +66,7 @@ given_fit g wanted cells len gave out was =
           sym (ap (λ (xs : List Cell). given_in g wanted xs len) (sym (take_all gave.seen cells all)) ∙ take_all (len / 64) first fits)
     ]
 
--- how many zones match
+-- the number of zones that match
 count_more : (g : GeometryFields) (wanted : Option State) (c : Cell) (cells : List Cell) (b : Bool) → is_wanted wanted c.state ≡ b → length (matching g wanted (c ∷ cells)) ≡ cond b (1 + length (matching g wanted cells)) (length (matching g wanted cells))
 count_more g wanted c cells true e = rw e (omega arith)
 count_more g wanted c cells false e = rw e refl
@@ -76,7 +76,7 @@ matching_count g wanted =
     is_count_by (λ (cells : List Cell). length (matching g wanted cells)) (λ (c : Cell). is_wanted wanted c.state) refl
     (λ c cells. count_more g wanted c cells (is_wanted wanted c.state) refl)
 
--- where all are wanted
+-- if all are wanted
 pub all_counted : (wanted : Option State) (cells : List Cell) → is_some wanted ≡ false → length cells ≡ count_wanted wanted cells
 all_counted None cells all = is_count_by (λ (xs : List Cell). length xs) (λ (c : Cell). true) refl (λ c xs. omega arith) cells
 all_counted (Some s) cells all = absurd cc

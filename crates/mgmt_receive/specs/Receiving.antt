@@ -1,4 +1,4 @@
--- What a Zone Management Receive reports of the cells of all zones: Zoned Namespace Command Set Specification 1.1, 3.4.2.
+-- The report of a Zone Management Receive on the cells of all zones: Zoned Namespace Command Set Specification 1.1, 3.4.2.
 use Rattle.std.specs.Prelude.{◌≡◌, ℕ, ◌-◌, ◌*◌, ◌/◌, ◌<◌, ◌≤◌, Bool, true, ◌==◌, Option, Some, None, List, ◌++◌, filter, take, drop, length, map, replicate}
 use Rattle.std.specs.List.{count_by}
 use Rattle.zns_types.specs.declared.fields.GeometryFields.{GeometryFields}
@@ -10,7 +10,7 @@ use Rattle.zone_cell.specs.Cells.{Cell, descriptor_of}
 use Rattle.drive_rules.specs.Reports.{passes, bytes_of_all, report}
 use Rattle.mgmt_receive.specs.declared.descriptors.Gave.{Gave}
 
--- the report of so many bytes, from the zone that holds a block on
+-- the report of a given length in bytes, starting at the zone that holds a block
 abbrev pub report_of : GeometryFields → List Cell → ℕ → ℕ → ℕ → Bool → List ℕ
 report_of g cells slba bytes kind partial = report bytes kind partial (drop (zone_of g slba) (map (descriptor_of g) cells))
 
@@ -19,26 +19,26 @@ abbrev pub is_wanted : Option State → State → Bool
 is_wanted None s = true
 is_wanted (Some wanted) s = number_of s == number_of wanted
 
--- a filter takes the states that are wanted, and no others
+-- a filter matches the states that are wanted, and no others
 abbrev pub Wants : ℕ → Option State → Type 0
 Wants kind wanted = (s : State) → passes kind s ≡ is_wanted wanted s
 
--- how many of these zones are wanted
+-- the number of these zones that are wanted
 abbrev pub count_wanted : Option State → List Cell → ℕ
 count_wanted wanted cells = count_by (λ c. is_wanted wanted c.state) cells
 
--- the descriptors of those that are wanted
+-- the descriptors of the zones that are wanted
 abbrev pub matching : GeometryFields → Option State → List Cell → List Descriptor
 matching g wanted cells = filter (λ d. is_wanted wanted d.state) (map (descriptor_of g) cells)
 
--- In so many bytes stand the descriptors of all of these zones that are wanted, and zeros after them.
+-- The first `len` bytes hold the descriptors of all of these zones that are wanted, followed by zeros.
 pub record Given (g : GeometryFields) (wanted : Option State) (cells : List Cell) (len number : ℕ) (out : List ℕ) : Type 0 where
   pub count : number ≡ length (matching g wanted cells)
   pub room : number ≤ len / 64
   pub bytes : out ≡ bytes_of_all (matching g wanted cells) ++ replicate (len - 64 * number) 0
 
--- Descriptors are given as far as there is room. Of the cells that were seen none is left out, and a cell is not seen
--- only where no other descriptor has room.
+-- Descriptors are given as long as there is room. None of the wanted cells seen is left out, and cells stay unseen only if no other
+-- descriptor fits.
 pub record Begun (g : GeometryFields) (wanted : Option State) (cells : List Cell) (len : ℕ) (gave : Gave) (out : List ℕ) : Type 0 where
   pub within : gave.seen ≤ length cells
   pub seen_cells : Given g wanted (take gave.seen cells) len gave.given out

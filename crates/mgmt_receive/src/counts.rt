@@ -6,7 +6,7 @@ use crate::filters::is_wanted;
 use zns_types::State;
 use zone_cell::ZoneCell;
 
-// How many of these zones are wanted.
+// The number of these zones that are wanted.
 fn count_wanted(cells: &[ZoneCell], wanted: Option<State>) -> usize
     ensures { result ≡ count_wanted wanted cells.now }
 {
@@ -17,8 +17,8 @@ fn count_wanted(cells: &[ZoneCell], wanted: Option<State>) -> usize
     count
 }
 
-/// How many zones are wanted, where so many were given of those that were seen: only the others
-/// are looked at, and none where all are wanted.
+/// The number of zones that are wanted, given how many of those seen so far were. Only the
+/// remaining cells are looked at, and none if all are wanted.
 pub fn count_all(cells: &[ZoneCell], wanted: Option<State>, gave: Gave) -> usize
     requires within { gave.seen ≤ length cells.now }
     requires given { gave.given ≡ count_wanted wanted (take gave.seen cells.now) }

@@ -10,15 +10,15 @@ use zone_descriptor::write;
 /// How far the descriptors of a report go.
 #[derive(Clone, Copy)]
 pub struct Gave {
-    /// How many were given.
+    /// The number of descriptors written.
     pub given: usize,
 
-    /// How many cells were looked at for them.
+    /// The number of cells looked at for them.
     pub seen: usize,
 }
 
-// Gives the descriptor of a zone after those that are given, where the zone is wanted: how many
-// then are given.
+// Writes the descriptor of a zone after the first `given`, if the zone is wanted. Returns the
+// number of descriptors written by then.
 fn give(cell: &ZoneCell, g: &Geometry, wanted: Option<State>, given: usize, out: &mut [u8]) -> usize
     requires of { IsOf g.now.fields cell.now }
     requires room { given < length out.old / 64 }
@@ -39,8 +39,8 @@ fn give(cell: &ZoneCell, g: &Geometry, wanted: Option<State>, given: usize, out:
     given + 1
 }
 
-/// Fills `out` with the descriptors of the zones that are wanted, as many as fit whole, and zeros
-/// after them. Once there is no more room, no other cell is looked at.
+/// Fills `out` with the descriptors of the zones that are wanted, as many as fit whole, followed by
+/// zeros. Once `out` has no room for another, no more cells are looked at.
 pub fn give_all(cells: &[ZoneCell], g: &Geometry, wanted: Option<State>, out: &mut [u8]) -> Gave
     requires of { All (IsOf g.now.fields) cells.now }
     ensures { Begun g.now.fields wanted cells.now (length out.old) result out.new }

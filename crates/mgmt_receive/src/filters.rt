@@ -3,7 +3,7 @@ ghost use Rattle.mgmt_receive.specs.Receiving.{is_wanted, Wants};
 
 use zns_types::State;
 
-/// The state that a filter takes, or none where it takes all of them.
+/// The state that a filter matches, or none if it matches all states.
 pub fn wanted_state(filter: u8) -> Option<State>
     ensures { Wants filter result }
 {

@@ -32,9 +32,9 @@ fn fill_report(cells: &[ZoneCell], g: &Geometry, filter: u8, partial: bool, out:
     write_head(number as u64, &mut out[..head]);
 }
 
-/// Reports the zones from the one that holds a block on, in the first `bytes` of `out`: those that
-/// a filter takes. `partial` asks for the number of zones that have room, not of all that match.
-/// The rest of `out` stays. The cells are those of all zones.
+/// Reports the zones that match a filter, starting at the zone that holds a block, in the first
+/// `bytes` bytes of `out`. `partial` asks for the number of zones that fit, not of all that match.
+/// The rest of `out` is unchanged. The cells are those of all zones.
 pub fn report(
     cells: &[ZoneCell],
     g: &Geometry,

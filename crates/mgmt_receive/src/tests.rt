@@ -26,7 +26,7 @@ const SMALL: GeometryFields = GeometryFields {
     depth: 64,
 };
 
-// A report of all zones of 320 bytes.
+// A report of all zones, in 320 bytes.
 const ALL: Asked = Asked {
     slba: 0,
     bytes: 320,
@@ -34,7 +34,7 @@ const ALL: Asked = Asked {
     partial: false,
 };
 
-// What the room for a report held before.
+// The byte that the output buffer is filled with before a report.
 const KEPT: u8 = 0xee;
 
 // What a Receive asks for.
@@ -46,7 +46,7 @@ struct Asked {
     partial: bool,
 }
 
-// Turns a zone where its state allows that.
+// Applies an action to a zone if its state allows it.
 fn turn(cell: &mut ZoneCell, g: &Geometry, action: Action)
     requires { IsOf g.now.fields cell.old }
     ensures { IsOf g.now.fields cell.new }
@@ -56,7 +56,7 @@ fn turn(cell: &mut ZoneCell, g: &Geometry, action: Action)
     }
 }
 
-// A zone after an action, and if its number is odd after another one.
+// A zone after an action, and after another one if its number is odd.
 fn zone_after(
     alloc: Global,
     g: &Geometry,
@@ -75,7 +75,7 @@ fn zone_after(
     Ok(cell)
 }
 
-// All zones after an action each, and those with an odd number after another one.
+// All zones after an action each, and after another one for those with an odd number.
 fn zones_after(
     alloc: Global,
     g: &Geometry,
@@ -93,7 +93,7 @@ fn zones_after(
     Ok(cells)
 }
 
-// The room after a Receive, where it is in the namespace and has room.
+// The output buffer after a Receive, if the block is in the namespace and the report fits.
 fn receive(cells: &[ZoneCell], g: &Geometry, asked: Asked) -> [u8; 320]
     requires all { length cells.now ≡ g.now.fields.zones }
     requires of { All (IsOf g.now.fields) cells.now }
@@ -130,7 +130,7 @@ fn at(block: u8) -> [u8; 8] {
     [block, 0, 0, 0, 0, 0, 0, 0]
 }
 
-// So many zeros after a number of zones, and the rest as before.
+// A report of `bytes` bytes without descriptors: `number` zones, and zeros. The rest is unchanged.
 fn empty_report(bytes: usize, number: u8) -> [u8; 320]
     requires { bytes ≤ 320 }
 {
@@ -184,7 +184,7 @@ fn reports_are_cut_to_their_length(rt: HostRuntime) -> Result<(), Fail> {
     Ok(())
 }
 
-// The numbers of zones that each filter finds, after an action to each zone.
+// The number of zones that each filter finds, after an action on each zone.
 fn found(cells: &[ZoneCell], g: &Geometry) -> [u8; 8]
     requires all { length cells.now ≡ g.now.fields.zones }
     requires of { All (IsOf g.now.fields) cells.now }

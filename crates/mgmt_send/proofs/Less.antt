@@ -1,5 +1,5 @@
--- What a deed to all zones leads on, and what a zone uses after it: no more than before, but for the open resource of a
--- Closed zone that it opens.
+-- What a deed to all zones leads to, and what a zone uses after it: no more than before, except for the open resource of a Closed zone that
+-- it opens.
 use Rattle.std.proofs.Common.{◌≡◌, ℕ, ◌+◌, ◌≤◌, Bool, true, false, IsTrue, List, [], refl, arith}
 use Rattle.std.specs.Prelude.{◌&&◌, ◌||◌, if◌then◌else◌}
 use Rattle.zns_types.specs.declared.fields.GeometryFields.{GeometryFields}
@@ -34,7 +34,7 @@ pub record UsesLess (d : Deed) (c new : Cell) : Type 0 where
   pub opened : one_in (cell_use new).opened + one_in (opens_closed d new) ≤ one_in (cell_use c).opened + one_in (opens_closed d c)
   pub windows : one_in (cell_use new).window ≤ one_in (cell_use c).window
 
--- a random write area is kept at most
+-- a random write area is at most kept
 kept_at_most : (was on : Bool) → one_in (was && on) ≤ one_in was
 kept_at_most true true = omega arith
 kept_at_most true false = omega arith

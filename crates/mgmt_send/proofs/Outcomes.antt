@@ -1,4 +1,4 @@
--- What becomes of a Send, by what is found out about it step by step.
+-- The outcome of a Send, from what is found out about it step by step.
 use Rattle.std.proofs.Common.{◌≡◌, Bool, true, false, List, [], ◌∷◌, ◌++◌, length, Option, Some, None, refl, ap, ◌∙◌}
 use Rattle.std.specs.Prelude.{◌&&◌, not, is_none, is_some, if◌then◌else◌, Ok, Err}
 use Rattle.std.proofs.lemmas.Bool.{eq-eqb}
@@ -60,7 +60,7 @@ needs-refused g c n k a s none aim checked = needs-rows g c n k a none aim ∙ w
 pub can_look : (g : GeometryFields) (cells : List Cell) (n : Limits) (k : Cmd) (a : Aim) → AreLentFor g cells n k → first_holding (front_rows g k) ≡ None → aim_of g k ≡ Some a → CanLook g cells n a
 can_look g cells n k a lent none aim = λ wants. lent.room a aim (needs-rows g (cell_in cells (place_of cells a.zone)) n k a none aim ∙ wants)
 
--- where all zones are there if they are needed, no verdict asks for them
+-- if all zones are lent whenever they are needed, no verdict asks for them
 pub never_widens : (g : GeometryFields) (cells : List Cell) (n : Limits) (a : Aim) → CanLook g cells n a → verdict g cells n (place_of cells a.zone) (are_all g cells) a.deed ≡ served.Widens → ⊥
 unfolding verdict_on
 never_widens g cells n a look e = by_case (wants_room g n (rows_at g cells (place_of cells a.zone) a.deed) (need_at cells (place_of cells a.zone) a.deed)) (are_all g cells) _ (λ wants. eq-eqb (length cells) g.zones (look wants)) e

@@ -21,7 +21,7 @@ use Rattle.mgmt_send.specs.Sweeping.{AreAllZones, HasRoomToOpen, counts_in, goes
 use Rattle.mgmt_send.proofs.Counting.{count-used, count-unused, count-change, recounted-set, one_in, step}
 use Rattle.mgmt_send.proofs.Less.{uses_less}
 
--- the zones before one are swept, and the others as they were
+-- the zones before a given one are swept, and the others are unchanged
 pub record IsUnderway (g : GeometryFields) (d : Deed) (old : List Cell) (i : ℕ) (cells : List Cell) (n : Limits) : Type 0 where
   pub zones : AreAllZones g cells n
   pub room : HasRoomToOpen g d cells n
@@ -54,7 +54,7 @@ has_room g d cells n i e lt sent room =
     is_one true le = cc
     is_one false le = absurd (omega arith)
 
--- after one zone more
+-- after one more zone
 swept_on : (g : GeometryFields) (d : Deed) (old : List Cell) (i : ℕ) (cells : List Cell) (n : Limits) (c : Cell) → i < length cells → length old ≡ length cells → IsTrue (goes_to_all d) → c ≡ get_or cells i c
     → IsOf g (swept_cell g d c) → IsUnderway g d old i cells n → IsUnderway g d old (i + 1) (set cells i (swept_cell g d c)) (recounted (cell_use c) (cell_use (swept_cell g d c)) n)
 swept_on g d old i cells n c lt size sent at of was =
@@ -102,7 +102,7 @@ none_opens : (p : Cell → Bool) (cells : List Cell) → ((c : Cell) → p c ≡
 none_opens p [] none = refl
 none_opens p (c ∷ cells) none = omega (arith, step p c cells, ap one_in (none c), none_opens p cells none)
 
--- no Open of too many
+-- it isn't an Open of too many zones
 open_fits : (limit opened closed : ℕ) → first_holding (when (not (limit == 0) && nat_lt limit (opened + closed)) too_many_open_zones ∷ []) ≡ None → IsWithin limit (opened + closed)
 open_fits limit opened closed none some =
     let fails : (not (limit == 0) && nat_lt limit (opened + closed)) ≡ false = (none_holds (when (not (limit == 0) && nat_lt limit (opened + closed)) too_many_open_zones ∷ []) none).0 in

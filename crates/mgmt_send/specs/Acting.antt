@@ -1,4 +1,4 @@
--- A Zone Management Send on the cells that are lent for it: those of all zones, or of some that follow each other.
+-- A Zone Management Send on the cells that are lent for it: those of all zones, or of some consecutive ones.
 use Rattle.std.specs.Prelude.{◌≡◌, ℕ, ◌+◌, ◌-◌, ◌<◌, ◌≤◌, Bool, IsTrue, true, false, ◌==◌, List, [], ◌++◌, length, Option, Some, None, unwrap_or, All}
 use Rattle.zns_types.specs.declared.fields.GeometryFields.{GeometryFields}
 use Rattle.zns_types.specs.Statuses.{Status, success, too_many_open_zones}
@@ -31,7 +31,7 @@ is_send _ = false
 abbrev pub first_zone : List Cell → ℕ
 first_zone cells = (cell_in cells 0).zone
 
--- the place of a zone among them
+-- the place of a zone among the cells
 abbrev pub place_of : List Cell → ℕ → ℕ
 place_of cells z = z - first_zone cells
 
@@ -39,31 +39,31 @@ place_of cells z = z - first_zone cells
 abbrev pub AreRising : List Cell → Type 0
 AreRising cells = (i : ℕ) → i < length cells → (cell_in cells i).zone ≡ first_zone cells + i
 
--- a zone is among them
+-- a zone is among the cells
 pub record IsAmong (cells : List Cell) (z : ℕ) : Type 0 where
   pub low : first_zone cells ≤ z
   pub high : place_of cells z < length cells
 
--- whether they are all zones
+-- whether the cells are those of all zones
 abbrev pub are_all : GeometryFields → List Cell → Bool
 are_all g cells = length cells == g.zones
 
--- whether a deed to this zone, if there is one, has to look at all zones
+-- whether a deed to this zone, if any, has to look at all zones
 abbrev pub wants_all : GeometryFields → Cell → Limits → Cmd → Option Aim → Bool
 wants_all g c n k None = false
 wants_all g c n k (Some a) = wants_room g n (front_rows g k ++ rows_for g a.deed (sight c)) (need_for a.deed (sight c))
 
--- Whether a Send to this zone has to look at all zones: every row before "too many open zones" passes, it needs an open
--- resource, and the open limit is reached, so that another zone has to give way.
+-- Whether a Send to this zone has to look at all zones: every row before "too many open zones" passes, the deed needs an open resource, and
+-- the open limit is reached, so another zone has to give way.
 abbrev pub needs_all : GeometryFields → Cell → Limits → Cmd → Bool
 needs_all g c n k = wants_all g c n k (aim_of g k)
 
--- where a deed to its zone has to look at all zones, these are all
+-- if a deed to its zone has to look at all zones, these are all zones
 abbrev pub CanLook : GeometryFields → List Cell → Limits → Aim → Type 0
 CanLook g cells n a = IsTrue (wants_room g n (rows_at g cells (place_of cells a.zone) a.deed) (need_at cells (place_of cells a.zone) a.deed)) → length cells ≡ g.zones
 
--- What a Send is lent: zones that follow each other, with their use among the counts. Where no row of the front refuses
--- it, they are the target's among others, or all zones.
+-- The cells that a Send is lent: consecutive zones, with their use among the counts. If none of its front rows refuses the Send, they
+-- include the target zone, or are all zones.
 pub record AreLentFor (g : GeometryFields) (cells : List Cell) (n : Limits) (k : Cmd) : Type 0 where
   pub rising : AreRising cells
   pub of : All (IsOf g) cells
@@ -74,7 +74,7 @@ pub record AreLentFor (g : GeometryFields) (cells : List Cell) (n : Limits) (k :
 
 -- ---- what becomes of a Send
 
--- its status, and the cells and the counts after it
+-- a Send's status, and the cells and the counts after it
 pub record Outcome : Type 0 where
   pub code : Status
   pub cells : List Cell
@@ -83,13 +83,13 @@ pub record Outcome : Type 0 where
 abbrev pub no_change : Status → List Cell → Limits → Outcome
 no_change code cells n = record { code = code; cells = cells; counts = n }
 
--- the status of a verdict; where all zones are lent, none asks for them
+-- the status of a verdict; if all zones are lent, no verdict asks for them
 abbrev pub status_of : Served → Status
 status_of served.Done = success
 status_of (served.Refused code) = code
 status_of served.Widens = too_many_open_zones
 
--- a deed to one zone
+-- the outcome of a deed to one zone
 abbrev pub outcome_of_aim : GeometryFields → List Cell → Limits → Aim → Outcome
 outcome_of_aim g cells n a = record {
   code = status_of (verdict g cells n (place_of cells a.zone) (are_all g cells) a.deed);
@@ -97,7 +97,7 @@ outcome_of_aim g cells n a = record {
   counts = counts_after g cells n (place_of cells a.zone) (are_all g cells) a.deed [];
 }
 
--- a deed to all zones
+-- the outcome of a deed to all zones
 abbrev pub outcome_of_sweep : GeometryFields → List Cell → Limits → Deed → Outcome
 outcome_of_sweep g cells n d = record {
   code = unwrap_or (sweep_refusal g cells n d) success;
@@ -105,7 +105,7 @@ outcome_of_sweep g cells n d = record {
   counts = counts_in (swept_cells g cells n d);
 }
 
--- one of them, or nothing
+-- the outcome of a deed to one zone, of a deed to all zones, or of nothing
 abbrev pub deeds_done : GeometryFields → List Cell → Limits → Option Aim → Option Deed → Outcome
 deeds_done g cells n (Some a) d = outcome_of_aim g cells n a
 deeds_done g cells n None (Some d) = outcome_of_sweep g cells n d
@@ -115,16 +115,16 @@ abbrev pub unless_refused : Option Status → List Cell → Limits → Outcome �
 unless_refused (Some code) cells n done = no_change code cells n
 unless_refused None cells n done = done
 
--- refused by a row that no zone decides, or else what its deed does
+-- a refusal by a row that no zone decides, or else the outcome of the Send's deed
 unfoldable pub outcome : GeometryFields → List Cell → Limits → Cmd → Outcome
 outcome g cells n k = unless_refused (first_holding (front_rows g k)) cells n (deeds_done g cells n (aim_of g k) (sweep_of k))
 
 -- ---- an excursion
 
--- what the state of a zone says of an excursion of a kind
+-- the verdict of a zone's state on an excursion of a kind
 abbrev pub excursion_verdict : GeometryFields → Cell → ℕ → Served
 excursion_verdict g c kind = refused_or_done (first_holding (rows_for g (deed.Excursion kind) (sight c)))
 
--- the zone after it
+-- the zone after the excursion
 abbrev pub cell_after_excursion : GeometryFields → Cell → ℕ → Cell
 cell_after_excursion g c kind = new_if_done (excursion_verdict g c kind) (after_deed g (deed.Excursion kind) [] c) c

@@ -16,7 +16,7 @@ use Rattle.zone_cell.specs.Cells.{Cell, IsOf}
 use Rattle.zone_cell.specs.Deeds.{after_deed}
 use Rattle.zone_room.specs.Rooms.{cell_use}
 
--- how many of these zones use each resource
+-- the number of these zones that use each resource
 abbrev pub counts_in : List Cell → Limits
 counts_in cells = record {
   active = count_by (λ c. (cell_use c).active) cells;
@@ -40,7 +40,7 @@ goes_to_all deed.Reset = true
 goes_to_all deed.Offline = true
 goes_to_all _ = false
 
--- how many of these zones are Closed
+-- the number of these zones that are Closed
 abbrev pub closed_in : List Cell → ℕ
 closed_in cells = count_by (λ c. is_closed c.state) cells
 
@@ -49,23 +49,23 @@ abbrev pub sweep_rows : GeometryFields → List Cell → Limits → Deed → Lis
 sweep_rows g cells n (deed.Open window) = open_all_rows g n (closed_in cells)
 sweep_rows g cells n _ = []
 
--- the status by which it is refused, if it is
+-- the status with which the deed is refused, if it is
 abbrev pub sweep_refusal : GeometryFields → List Cell → Limits → Deed → Option Status
 sweep_refusal g cells n d = first_holding (sweep_rows g cells n d)
 
--- a zone after it, where the zone's state takes it
+-- a zone after the deed, if the zone's state allows it
 abbrev pub swept_cell : GeometryFields → Deed → Cell → Cell
 swept_cell g d c = if takes_all d c.state then after_deed g d [] c else c
 
--- all zones after it, unless it was refused
+-- all zones after the deed, unless it was refused
 abbrev pub swept_cells : GeometryFields → List Cell → Limits → Deed → List Cell
 swept_cells g cells n d = if is_some (sweep_refusal g cells n d) then cells else map (swept_cell g d) cells
 
--- whether it opens a zone that isn't
+-- whether the deed opens a zone that isn't opened
 abbrev pub opens_closed : Deed → Cell → Bool
 opens_closed (deed.Open window) c = is_closed c.state
 opens_closed _ c = false
 
--- the opened zones, with those that it opens, are within the limit
+-- the opened zones, together with those that the deed opens, are within the limit
 abbrev pub HasRoomToOpen : GeometryFields → Deed → List Cell → Limits → Type 0
 HasRoomToOpen g d cells n = IsWithin g.open_limit (n.opened + count_by (opens_closed d) cells)

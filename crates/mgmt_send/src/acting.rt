@@ -15,7 +15,7 @@ use zone_cell::ZoneCell;
 use zone_limits::{Limits, wants_room};
 use zone_room::{Served, recount, serve_deed, use_of};
 
-/// Whether a Send to this zone has to look at all zones for one that gives way.
+/// Whether a Send to this zone has to look at all zones to find one that gives way.
 pub fn needs_all(cell: &ZoneCell, limits: &Limits, g: &Geometry, send: Cmd) -> bool
     requires send { IsTrue (is_send send) }
     requires ranges { HasRanges send }
@@ -34,7 +34,7 @@ pub fn needs_all(cell: &ZoneCell, limits: &Limits, g: &Geometry, send: Cmd) -> b
     }
 }
 
-// Does a deed to one of the zones that are lent.
+// Does a deed to one of the lent zones.
 fn act_on_one(cells: &mut [ZoneCell], limits: &mut Limits, g: &Geometry, aim: Aim) -> Code
     requires among { IsAmong cells.old aim.zone }
     requires of { All (IsOf g.now.fields) cells.old }
@@ -56,8 +56,8 @@ fn act_on_one(cells: &mut [ZoneCell], limits: &mut Limits, g: &Geometry, aim: Ai
     }
 }
 
-/// Does a whole Zone Management Send, without a history: it is refused by a row that no zone
-/// decides, or its deed goes to its zone or to all zones.
+/// Does a whole Zone Management Send, without a history: a row that no zone decides refuses it, or
+/// its deed goes to its zone or to all zones.
 pub fn act(cells: &mut [ZoneCell], limits: &mut Limits, g: &Geometry, send: Cmd) -> Code
     requires send { IsTrue (is_send send) }
     requires ranges { HasRanges send }
@@ -79,7 +79,8 @@ pub fn act(cells: &mut [ZoneCell], limits: &mut Limits, g: &Geometry, send: Cmd)
     Code::SUCCESS
 }
 
-/// The controller itself acts on a zone, in one of five ways, where the zone's state lets it.
+/// An excursion: the controller itself acts on a zone, in one of five ways, if the zone's state
+/// allows it.
 pub fn excurse(cell: &mut ZoneCell, limits: &mut Limits, g: &Geometry, kind: u8) -> Code
     requires of { IsOf g.now.fields cell.old }
     requires counted { AreCounted g.now.fields limits.old (cell_use cell.old) }

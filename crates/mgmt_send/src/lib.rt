@@ -1,4 +1,4 @@
-//! Zone Management Send, to one zone and to all.
+//! Zone Management Send, to one zone or to all.
 #![tactic(auto)]
 
 mod acting;

@@ -12,7 +12,7 @@ use zone_cell::ZoneCell;
 use zone_limits::Limits;
 use zone_room::{recount, use_of};
 
-// Does a deed to a zone whose state takes it, and counts what the zone then uses.
+// Does a deed to a zone whose state allows it, and updates the counts of zones in use.
 fn sweep_one(cell: &mut ZoneCell, limits: &mut Limits, g: &Geometry, deed: Deed)
     requires sent { IsTrue (goes_to_all deed) }
     requires of { IsOf g.now.fields cell.old }
@@ -37,7 +37,7 @@ fn sweep_one(cell: &mut ZoneCell, limits: &mut Limits, g: &Geometry, deed: Deed)
     recount(limits, g, before, use_of(cell));
 }
 
-// Does a deed to every zone whose state takes it. There is room for what it opens.
+// Does a deed to every zone whose state allows it. There is room for what it opens.
 fn sweep_cells(cells: &mut [ZoneCell], limits: &mut Limits, g: &Geometry, deed: Deed)
     requires sent { IsTrue (goes_to_all deed) }
     requires zones { AreAllZones g.now.fields cells.old limits.old }
@@ -50,7 +50,8 @@ fn sweep_cells(cells: &mut [ZoneCell], limits: &mut Limits, g: &Geometry, deed: 
     }
 }
 
-// The row that refuses a deed to all zones: an Open of all Closed zones opens no more than may be.
+// The row that refuses a deed to all zones: an Open of all Closed zones may not exceed the open
+// limit.
 fn check(cells: &[ZoneCell], limits: &Limits, g: &Geometry, deed: Deed) -> Option<Code>
     requires { AreAllZones g.now.fields cells.now limits.now }
     ensures { result ≡ sweep_refusal g.now.fields cells.now limits.now deed }
@@ -63,9 +64,8 @@ fn check(cells: &[ZoneCell], limits: &Limits, g: &Geometry, deed: Deed) -> Optio
     (limit != 0 && opened > limit).then_some(Code::TOO_MANY_OPEN_ZONES)
 }
 
-/// Does a deed to every zone whose state takes it, and counts what they then use: what a Zone
-/// Management Send with Select All does. An Open that would open too many is refused, and then
-/// nothing changed.
+/// Does a deed to every zone whose state allows it, and updates the counts: a Zone Management Send
+/// with Select All. An Open that would open too many zones is refused, and nothing changes.
 pub fn sweep(cells: &mut [ZoneCell], limits: &mut Limits, g: &Geometry, deed: Deed) -> Option<Code>
     requires sent { IsTrue (goes_to_all deed) }
     requires zones { AreAllZones g.now.fields cells.old limits.old }

@@ -6,7 +6,7 @@ use drive_rules::Deed;
 use zns_types::State;
 use zone_cell::ZoneCell;
 
-/// Whether a zone in this state takes a deed that goes to all zones.
+/// Whether a deed to all zones applies to a zone in this state.
 pub fn takes_all(deed: Deed, state: State) -> bool
     ensures { result ≡ takes_all deed state }
 {
@@ -20,7 +20,7 @@ pub fn takes_all(deed: Deed, state: State) -> bool
     }
 }
 
-/// How many zones are Closed.
+/// The number of Closed zones.
 pub fn count_closed(cells: &[ZoneCell]) -> usize
     ensures exact { result ≡ closed_in cells.now }
     ensures few { result ≤ length cells.now }

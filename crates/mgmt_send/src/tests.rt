@@ -12,7 +12,7 @@ use zone_cell::ZoneCell;
 use zone_limits::Limits;
 use zone_room::use_of;
 
-// Two zones of four may be opened.
+// Four zones, two of which may be opened.
 const SMALL: GeometryFields = GeometryFields {
     block_exp: 9,
     mdts: 0,
@@ -30,7 +30,7 @@ const SMALL: GeometryFields = GeometryFields {
     depth: 64,
 };
 
-// The codes of a Send's actions.
+// The action codes of a Send.
 const CLOSE: u8 = 0x01;
 
 const FINISH: u8 = 0x02;
@@ -41,10 +41,10 @@ const RESET: u8 = 0x04;
 
 const OFFLINE: u8 = 0x05;
 
-// Not as a test expects.
+// The status of a step that fails its check.
 const WRONG: Code = Code::INVALID_OPCODE;
 
-// What is asked of the zones.
+// A step of a test.
 #[derive(Clone, Copy, Debug)]
 enum Step {
     // A Send of an action to the zone of a block.
@@ -53,7 +53,7 @@ enum Step {
     // A Send of an action to all zones.
     All(u8),
 
-    // An excursion of a kind of the zone at a place.
+    // An excursion of the zone at a place, of a given kind.
     Excursion(usize, u8),
 }
 
@@ -62,7 +62,7 @@ use Step::{All, Excursion, One};
 // A step, its status, and the states after it.
 type Row = (Step, Code, [State; 4]);
 
-// How many zones use each resource.
+// The number of zones that use each resource.
 fn count_uses(cells: &[ZoneCell]) -> Limits
     requires { length cells.now ≤ 4096 }
     ensures { result ≡ counts_in cells.now }
@@ -96,7 +96,7 @@ fn is_within(limits: &Limits, g: &Geometry) -> bool
         && limits.windows <= fields.zones
 }
 
-// Whether these are all zones, with the counts of what they use.
+// Whether these are all zones, and the counts are of what they use.
 fn are_all_zones(cells: &[ZoneCell], limits: &Limits, g: &Geometry) -> bool
     requires { All (IsOf g.now.fields) cells.now }
     ensures { IsTrue result → AreAllZones g.now.fields cells.now limits.now }
@@ -111,7 +111,7 @@ fn are_all_zones(cells: &[ZoneCell], limits: &Limits, g: &Geometry) -> bool
         && is_within(limits, g)
 }
 
-// Whether each zone stands at the place of its number.
+// Whether each zone is at the place of its number.
 fn are_rising(cells: &[ZoneCell]) -> bool
     ensures rising { IsTrue result → AreRising cells.now }
     ensures first { IsTrue result → first_zone cells.now ≡ 0 }
@@ -124,7 +124,7 @@ fn are_rising(cells: &[ZoneCell]) -> bool
     true
 }
 
-// The status of a step, where all zones are there.
+// The status of a step, if the cells are those of all zones.
 fn status_of(cells: &mut [ZoneCell], limits: &mut Limits, g: &Geometry, step: Step) -> Code
     requires { All (IsOf g.now.fields) cells.old }
     ensures { All (IsOf g.now.fields) cells.new }

@@ -15,7 +15,7 @@ use Rattle.queue_controller.specs.Jobs.{IsReplyTo}
 use Rattle.queue_controller.specs.Sessions.{AllSaid}
 use Rattle.queue_controller.proofs.Responses.{queue_responses-own, queue_responses-other, First, respond_first}
 
--- the act at a place of a list, and what stands before and after it
+-- the act at a place of a list, and what comes before and after it
 pub record Here (acts : List Act) (n : ℕ) : Type 0 where
   pub act : Act
   pub at : get_or acts n act ≡ act
@@ -35,7 +35,7 @@ here (a ∷ acts) (suc n) h =
       with_it = ap (λ k. take k (a ∷ acts)) next ∙ ap (λ (l : List Act). a ∷ l) there.with_it;
     }
 
--- an act of a queue is one of its acts
+-- if a queue has no acts in a list, none of its members is of the queue
 pub none_at : (q : ℕ) (acts : List Act) (i : ℕ) (d : Act) → i < length acts → acts_of q acts ≡ [] → (get_or acts i d).queue ≢ q
 none_at q [] i d h none is = absurd (omega arith)
 none_at q (a ∷ acts) zero d h none is = absurd (cc (none, ap (λ t. cond t (a ∷ acts_of q acts) (acts_of q acts)) (eq-eqb a.queue q is)))
@@ -46,7 +46,7 @@ none_at q (a ∷ acts) (suc i) d h none is =
 near_by : (said : List (VecDeque Reply Global)) (log : List Act) (n : ℕ) (x : Here log n) (q : ℕ) → q ≡ x.act.queue → n < length log → ((queue : ℕ) → length said ≤ queue → acts_of queue log ≡ []) → q < length said
 near_by said log n x q mine inside others = lt_of_not-le (λ far. none_at q log n x.act inside (others q far) (ap (λ (a : Act). a.queue) x.at ∙ sym mine))
 
--- the act whose reply is the next, of this queue, which has a list
+-- the act whose reply comes next, of this queue, which has a list
 pub record Turn (said : List (VecDeque Reply Global)) (log : List Act) (n q : ℕ) : Type 0 where
   pub place : Here log n
   pub mine : q ≡ place.act.queue

@@ -1,4 +1,4 @@
--- An act was served, and only the book was given back.
+-- An act was served, and the book alone was given back.
 use Rattle.std.proofs.Common.{◌≡◌, ℕ, ◌<◌, None, List, [], ◌∷◌, ◌++◌, refl, ap, sym, ◌∙◌, subst, arith}
 use Rattle.zone_model.specs.declared.act.Act.{Act}
 use Rattle.zone_model.specs.Kept.{KeptActs}
@@ -16,7 +16,7 @@ use Rattle.zone_desk.proofs.Carried.{zones-in_order}
 use Rattle.queue_controller.specs.Serving.{Serves, IsPosted, ServedOn}
 use Rattle.queue_controller.specs.Keeping.{ServedKeeping, rested}
 
--- a commit leaves a pass the zones that it has
+-- a commit doesn't change which zones a pass has
 zones_held-committed : (v : Sight) (a : Act) (j : KeptActs) → zones_held (committed (with_journal v j) a) ≡ zones_held v
 zones_held-committed v a j =
     let log : List Act = j.acts ++ a ∷ [] in

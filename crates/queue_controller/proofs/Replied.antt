@@ -11,7 +11,7 @@ use Rattle.zone_desk.specs.declared.sight.Sight.{Sight}
 use Rattle.queue_controller.specs.Serving.{Serves, IsPosted}
 use Rattle.queue_controller.specs.Jobs.{IsReplyTo}
 
--- what the act reads stands in front of the room
+-- what the act reads is at the front of the room
 read-in-front : (g : GeometryFields) (a : Act) (p : Posted) (out out' : List ℕ) (acts : List Act) → IsPosted g a p out out' acts → take p.len out' ≡ reply_bytes g (answered g acts) a
 read-in-front g a p out out' acts is =
     let bytes : List ℕ = reply_bytes g (answered g acts) a in

@@ -85,7 +85,7 @@ not_live n standings have q far e = let near = within_by standings q Live e in l
 -- ---- the journal
 
 module _ (g : GeometryFields) (desk : DeskId) (acts : List Act) (jobs : List Job) (rest : AllRest desk acts jobs) (ps : List Pass) (are : ps ≡ map pass_of jobs) (count : length jobs ≡ g.queues) (log : List Act) (known : HaveKnown log ps) where
-  -- of each queue the journal has the acts that were asked for
+  -- the journal has the acts of each queue that were asked for
   own_acts : (q : ℕ) (j : Job) → get_elem? jobs q ≡ some j → acts_of q log ≡ acts_of q acts
   own_acts q j e =
       let r = rest q j e in
@@ -110,7 +110,7 @@ module _ (g : GeometryFields) (desk : DeskId) (acts : List Act) (jobs : List Job
 
 -- ---- the replies
 
--- a list of replies is that of the job at its place
+-- each list of replies is that of the job at its place
 abbrev pub FromJobs : List Job → List (VecDeque Reply Global) → Type 0
 FromJobs jobs said = (q : ℕ) (d : VecDeque Reply Global) → get_elem? said q ≡ some d → (j : Job) × ((get_elem? jobs q ≡ some j) × (d.items ≡ j.replies.items))
 

@@ -1,4 +1,4 @@
--- Acts that have the acts of each queue of others are these in an order of them.
+-- Acts that have, for each queue, the same acts as others are an order of those.
 use Rattle.std.proofs.Common.{◌≡◌, ℕ, suc, ◌+◌, ◌≤◌, Bool, true, false, cond, List, [], ◌∷◌, length, Option, Some, refl, sym, ap, ◌∙◌, subst, arith}
 use Rattle.std.specs.Prelude.{◌==◌, All}
 use Rattle.std.proofs.lemmas.Bool.{eqb-true, eq-eqb}

@@ -1,4 +1,4 @@
--- A command found a zone's word held, and gave all back.
+-- A command found a zone's word held, and gave everything back.
 use Rattle.std.proofs.Common.{◌≡◌, ℕ, List, [], ◌∷◌, ◌++◌, Option, refl, ap, sym, ◌∙◌, subst, append-nil}
 use Rattle.zone_cell.specs.Cells.{Cell}
 use Rattle.zone_model.specs.Kept.{KeptActs}

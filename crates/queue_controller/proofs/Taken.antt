@@ -1,4 +1,4 @@
--- The words of zones are taken one after the other.
+-- The words of zones are taken one after another.
 use Rattle.std.proofs.Common.{◌≡◌, ℕ, zero, suc, ◌+◌, ◌-◌, ◌<◌, ◌≤◌, List, [], ◌∷◌, ◌++◌, length, refl, ap, sym, ◌∙◌, subst, arith, inl, inr, append_assoc}
 use Rattle.std.specs.List.{range_with_len}
 use Rattle.std.proofs.lemmas.List.FromFn.{length-range_with_len}
@@ -26,7 +26,7 @@ range_more from z le =
     let count : suc (z - from) ≡ z + 1 - from = omega arith in
     ap (λ (k : ℕ). range_with_len from (z - from) ++ k ∷ []) last ∙ (range_end from (z - from) ∙ ap (range_with_len from) count)
 
--- so many numbers from the first on lie within, if they do from some number on
+-- if `count` numbers from the first on are a range of zones, they lie within the drive's
 pub range-within : (g : GeometryFields) (first count : ℕ) → IsRange g (range_with_len first count) → 1 ≤ count → first + count ≤ g.zones
 range-within g first zero is some = absurd (omega arith)
 range-within g first (suc n) is some = by_count is.count is.all
@@ -40,7 +40,7 @@ range-within g first (suc n) is some = by_count is.count is.all
 
 -- ---- the loop
 
--- a pass that has the zones from one on before another, and may take that one's word next
+-- a pass that has the zones from `first` on, up to but not including `zone`, and may take that one's word next
 pub record Takes (p : Pass) (first zone : ℕ) (q : Pass) : Type 0 where
   pub view : q ≡ knowing p (with_cells p.sight q.sight.cells)
   pub zones : zones_held q.sight ≡ range_with_len first (zone - first)
@@ -106,6 +106,6 @@ stops-at p q q' first end zone low high t is =
       before = (w.0, w.1 ∙ (λ i. zone_words (sym held i) ++ word i ∷ w.0));
     }
 
--- a list that goes on begins with the same
+-- a longer list begins with the same words
 pub before-more : (held words more : List ℕ) (word : ℕ) → Before held word words → Before held word (words ++ more)
 before-more held words more word b = (b.0 ++ more, ap (λ l. l ++ more) b.1 ∙ append_assoc held (word ∷ b.0) more)

@@ -12,7 +12,7 @@ use Rattle.queue_controller.specs.Replies.{response_of, response_at, queue_respo
 use Rattle.queue_controller.specs.declared.job.Prepared.{Prepared}
 use Rattle.queue_controller.specs.declared.job.Job.{Job}
 
--- an act of this queue, with room for what it asks for
+-- an act of this queue with the host data that it asks for, and empty room that is large enough for what it reads
 pub record IsPrepared (g : GeometryFields) (queue : ℕ) (p : Prepared) : Type 0 where
   pub queue_is : p.act.queue ≡ queue
   pub empty : p.out.items ≡ []
@@ -25,12 +25,12 @@ ArePrepared g queue (p ∷ ps) = IsPrepared g queue p × ArePrepared g queue ps
 abbrev pub acts_in : List Prepared → List Act
 acts_in ps = map (λ p. p.act) ps
 
--- a reply to an act that comes after these
+-- the reply to an act that comes after these
 pub record IsReplyTo (g : GeometryFields) (a : Act) (r : Reply) (acts : List Act) : Type 0 where
   pub is : response_of r ≡ response_at g acts a
   pub short : IsShort r
 
--- Nothing is served yet, and there is room for all.
+-- Nothing is served so far, and there is room for all.
 pub record Starts (desk : DeskId) (j : Job) : Type 0 where
   pub free : HoldsNothing desk j.pass
   pub own : j.pass.sight.own ≡ []

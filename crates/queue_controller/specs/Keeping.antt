@@ -28,7 +28,7 @@ kept_zones g kept.All = zones g
 abbrev pub Serve : KeptWords → Reach → Type 0
 Serve words reach = (words ≡ kept.Zones reach) ⊎ (words ≡ kept.All)
 
--- At its last commit the pass held few words. Or it held those of all zones, which it had kept.
+-- At its last commit the pass held few words, or those of all zones, which it had kept.
 abbrev pub HeldFewOrKept : GeometryFields → KeptWords → Act → Sight → Sight → Type 0
 HeldFewOrKept g words a v w = HeldFew g a v w ⊎ ((words ≡ kept.All) × HeldOnly (words_for (zones g)) v w)
 
@@ -37,21 +37,21 @@ HeldFewOrKept g words a v w = HeldFew g a v w ⊎ ((words ≡ kept.All) × HeldO
 abbrev pub HaveCause : GeometryFields → KeptWords → Act → Sight → Type 0
 HaveCause g words a w = (words ≡ kept.All) ⊎ (wants_room g w.given_back_log a ≡ true)
 
--- a pass of the desk that holds the words of just these zones, and has no open command
+-- a pass of the desk that holds the words of exactly these zones, and has no open command
 pub record Holds (desk : DeskId) (zs : List ℕ) (p : Pass) : Type 0 where
   pub desk_is : p.desk ≡ desk
   pub no_book : p.sight.journal ≡ None
   pub zones : zones_held p.sight ≡ zs
   pub none_open : p.opened ≡ None
 
--- The pass holds just the zones that it kept, and may serve one command more. The host data, and the room for what the
--- command reads, have the lengths that it asks for.
+-- The pass holds exactly the zones that it kept, and may serve one more command. The host data, and the room for what the command reads,
+-- have the lengths that it asks for.
 pub record MayGoOn (desk : DeskId) (words : KeptWords) (p : Pass) (sqe : Sqe) (payload : List ℕ) (room : ℕ) : Type 0 where
   pub holds : Holds desk (kept_zones desk.geometry words) p
   pub spare : 0 < p.sight.spare
   pub lengths : HasLengths desk.geometry (act_of p.sight.queue sqe payload) room
 
--- what the pass knows, once it gave its zones back
+-- what the pass knows once it gave its zones back
 abbrev pub rested : Sight → Sight
 rested v = with_cells v []
 
@@ -60,7 +60,7 @@ pub record ServedKeeping (desk : DeskId) (a : Act) (posted : Posted) (out out' :
   pub served : ServedOver desk.geometry a (zones_held v) posted out out' (rested v) (rested p.sight)
   pub holds : Holds desk (zones_held v) p
 
--- it was served on the zones that the pass has, or all was given back
+-- it was served on the zones that the pass has, or everything was given back
 abbrev pub AttemptsKeeping : DeskId → Act → List ℕ → List ℕ → Sight → Applied → Pass → Type 0
 AttemptsKeeping desk a out out' v (applied.Done posted) p = ServedKeeping desk a posted out out' v p
 AttemptsKeeping desk a out out' v (applied.Widen payload) p = Holds desk [] p × GaveUp desk.geometry a (zones_held v) payload out out' (rested v) p.sight

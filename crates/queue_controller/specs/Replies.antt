@@ -1,4 +1,4 @@
--- The replies to acts that come one after the other.
+-- The replies to acts that come one after another.
 use Rattle.std.specs.Prelude.{◌≡◌, ℕ, List, [], ◌∷◌, ◌++◌, map, cond, All}
 use Rattle.zns_types.specs.declared.fields.GeometryFields.{GeometryFields}
 use Rattle.cqe_codec.specs.declared.cqe.Cqe.{Cqe}
@@ -10,7 +10,7 @@ use Rattle.zone_model.specs.Replies.{reply_bytes}
 use Rattle.zone_model.specs.Sessions.{is_of}
 use Rattle.session_file.specs.Results.{IsShort}
 
--- what an act is answered: the entries that it posts, and the bytes that it reads
+-- the answer to an act: the entries that it posts, and the bytes that it reads
 pub record Response : Type 0 where
   pub entries : List Cqe
   pub read : List ℕ
@@ -22,7 +22,7 @@ response_of r = record { entries = r.entries.items; read = r.read }
 abbrev pub response_at : GeometryFields → List Act → Act → Response
 response_at g before a = record { entries = posted g (answered g before) a; read = reply_bytes g (answered g before) a }
 
--- a response more, where the act is counted
+-- one more response, if the act is counted
 abbrev pub with_response : Response → List Response → Act → ℕ → List Response
 with_response r rs a queue = cond (is_of queue a) (r ∷ rs) rs
 

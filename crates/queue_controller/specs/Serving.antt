@@ -1,4 +1,4 @@
--- What a served command tells.
+-- What serving a command does.
 use Rattle.std.specs.Prelude.{◌≡◌, ◌≢◌, ◌⊎◌, ℕ, ◌+◌, ◌<◌, true, false, None, List, [], ◌∷◌, ◌++◌, length, drop}
 use Rattle.zns_types.specs.declared.fields.GeometryFields.{GeometryFields}
 use Rattle.zone_model.specs.declared.act.Act.{Act}
@@ -22,15 +22,15 @@ use Rattle.zone_desk.specs.Passes.{DeskId, Pass, knowing, HasApplied, IsIdle}
 use Rattle.zone_desk.specs.declared.sight.Sight.{Sight}
 use Rattle.queue_controller.specs.Words.{HoldsNothing}
 
--- The pass holds nothing, and may serve one command more. The host data, and the room for what the command reads, have the
--- lengths that it asks for.
+-- The pass holds nothing, and may serve one more command. The host data, and the room for what the command reads, have the lengths that it
+-- asks for.
 pub record MayServe (desk : DeskId) (p : Pass) (sqe : Sqe) (payload : List ℕ) (room : ℕ) : Type 0 where
   pub free : HoldsNothing desk p
   pub spare : 0 < p.sight.spare
   pub lengths : HasLengths desk.geometry (act_of p.sight.queue sqe payload) room
 
--- The pass has the zones that the command may read or change, or all, and may serve it there. It has no book and no open
--- command. The host data, and the room for what the command reads, have the lengths that it asks for.
+-- The pass has the zones that the command may read or change, or all zones, and may serve it there. It has no book and no open command. The
+-- host data, and the room for what the command reads, have the lengths that it asks for.
 pub record MayServeHere (desk : DeskId) (p : Pass) (sqe : Sqe) (payload : List ℕ) (room : ℕ) : Type 0 where
   pub desk_is : p.desk ≡ desk
   pub no_book : p.sight.journal ≡ None
@@ -51,7 +51,7 @@ pub record Serves (v : Sight) (a : Act) (IsAnswered : List Act → Type 0) (w : 
   pub queue : w.queue ≡ v.queue
   pub idle : IsIdle w
 
--- The entries and the bytes are those of an act that comes after these. The rest of the room stays.
+-- The entries and the bytes are those of an act that comes after these. The rest of the room is unchanged.
 pub record IsPosted (g : GeometryFields) (a : Act) (p : Posted) (out out' : List ℕ) (acts : List Act) : Type 0 where
   pub entries : p.entries.items ≡ posted g (answered g acts) a
   pub len : p.len ≡ length (reply_bytes g (answered g acts) a)
@@ -63,14 +63,14 @@ pub record IsPosted (g : GeometryFields) (a : Act) (p : Posted) (out out' : List
 abbrev pub words_for : List ℕ → List ℕ
 words_for zs = zone_words zs ++ 1 ∷ []
 
--- At its last commit the pass held just these words. It gave no book back without a commit since it knew v.
+-- At its last commit the pass held exactly these words. It gave no book back without a commit since it knew v.
 pub record HeldOnly (words : List ℕ) (v w : Sight) : Type 0 where
   pub held : w.held_at_commit ≡ words
   pub given_back : w.given_back ≡ v.given_back
   pub given_back_log : w.given_back_log ≡ v.given_back_log
 
--- At its last commit the pass held just the words of the zones that the act may read or change. Or it held those of all
--- zones, and had given the book back once, since another zone had to give way to the act, or it was refused.
+-- At its last commit the pass held exactly the words of the zones that the act may read or change. Or it held those of all zones, and had
+-- given the book back once, since another zone had to give way to the act, or it was refused.
 abbrev pub HeldFew : GeometryFields → Act → Sight → Sight → Type 0
 HeldFew g a v w =
     ((w.held_at_commit ≡ words_for (reach g a)) × (w.given_back ≡ v.given_back))
@@ -78,18 +78,17 @@ HeldFew g a v w =
 
 -- ---- one attempt
 
--- The pass took the book, of a journal that it was told is fresh, and the act was served there on the zones that it has.
+-- The pass took the book, with a journal that it was told is fresh, and the act was served there on the zones that it has.
 pub record ServedOn (p p' : Pass) (a : Act) (out out' : List ℕ) (r : Applied) : Type 0 where
   pub journal : KeptActs
   pub fresh : IsFresh p.desk.geometry p.sight journal
   pub applied : HasApplied (knowing p (with_journal p.sight journal)) p' a out out' r
 
--- all that was out was given back without a commit, at a journal of these acts
+-- everything was given back without a commit, at a journal of these acts
 abbrev pub gave_up : Sight → List Act → Sight
 gave_up v log = record v { journal = None; cells = []; uncommitted = false; given_back = v.given_back + 1; given_back_log = log }
 
--- Another zone has to give way, or the act is refused, and these zones aren't all: nothing changed but that the book was
--- given back.
+-- Another zone has to give way, or the act is refused, and these aren't all zones: nothing changed except that the book was given back.
 pub record GaveUp (g : GeometryFields) (a : Act) (zs payload out out' : List ℕ) (v w : Sight) : Type 0 where
   pub log : List Act
   pub gave : w ≡ gave_up v log

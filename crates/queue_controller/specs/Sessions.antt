@@ -1,4 +1,4 @@
--- A session whose queues are served side by side.
+-- A session whose queues are served in parallel.
 use Rattle.std.specs.Prelude.{◌≡◌, ℕ, ◌+◌, ◌≤◌, ◌<◌, List, [], ◌∷◌, length, vec_capacity}
 use Rattle.std.specs.Global.{Vec, Global}
 use Rattle.std.specs.declared.collections.VecDeque.{VecDeque}
@@ -21,7 +21,7 @@ use Rattle.queue_controller.specs.declared.closing.Outcome.{Outcome}
 
 -- ---- the acts of each queue
 
--- how many acts all lists have
+-- the number of acts in all lists
 abbrev pub total : List (Vec Prepared) → ℕ
 total [] = 0
 total (l ∷ ls) = length l.items + total ls
@@ -48,11 +48,11 @@ AllPrepared g lists = (queue : ℕ) (l : Vec Prepared) → get_elem? lists queue
 
 -- ---- jobs
 
--- each of so many queues has a pass
+-- each of the `n` queues has a pass
 abbrev pub AllHave : ℕ → List Standing → Type 0
 AllHave n standings = (length standings ≡ n) × ((queue : ℕ) → queue < n → get_elem? standings queue ≡ some Live)
 
--- a job that has yet to serve the list of its queue
+-- a job whose queue's list is yet to be served
 pub record IsOpen (desk : DeskId) (lists : List (Vec Prepared)) (queue : ℕ) (j : Job) : Type 0 where
   pub starts : Starts desk j
   pub queue_is : j.pass.sight.queue ≡ queue
@@ -71,7 +71,7 @@ pub record Filled (desk : DeskId) (lists : List (Vec Prepared)) (main : Pass) (j
   pub jobs_open : AllOpen desk lists jobs
   pub count : length jobs ≡ length lists
 
--- room for what a session of so many queues leaves
+-- room for what a session of this many queues and acts leaves
 pub record HasRoom (queues acts : ℕ) (s : Shop) : Type 0 where
   pub passes : s.passes.items ≡ []
   pub passes_fit : queues ≤ vec_capacity s.passes
@@ -112,12 +112,12 @@ pub record IsServed (r : Recorded) (s : Shop) : Type 0 where
 
 -- ---- the end
 
--- The replies to each queue's acts among these, which come after others.
+-- the replies to each queue's acts among these, which come after others
 abbrev pub AllSaid : GeometryFields → List Act → List Act → List (VecDeque Reply Global) → Type 0
 AllSaid g before acts said = (queue : ℕ) (d : VecDeque Reply Global) → get_elem? said queue ≡ some d → Respond d.items (queue_responses g queue before acts)
 
--- The acts of the session were served in one order, each once and each queue's in its own order, and each was answered
--- what a drive that serves one act at a time answers it there. The laws of histories hold of them.
+-- The acts of the session were served in one order, each once and each queue's in its own order, and each was answered as by a drive that
+-- serves one act at a time in that order. The laws of histories hold of them.
 pub record Runs (r : Recorded) (o : Outcome) : Type 0 where
   pub geometry : o.drive.geometry ≡ r.geometry
   pub each_once : IsOrder r.acts (own_order o.drive.acts)

@@ -1,4 +1,4 @@
--- What a command tells that waits for nobody.
+-- What a command does that never waits.
 use Rattle.std.specs.Prelude.{◌≡◌, ◌⊎◌, ℕ, ◌+◌, true, List}
 use Rattle.zns_types.specs.declared.fields.GeometryFields.{GeometryFields}
 use Rattle.zone_model.specs.declared.act.Act.{Act}
@@ -15,7 +15,7 @@ use Rattle.queue_controller.specs.declared.trying.Tried.TheVariants as tried
 use Rattle.queue_controller.specs.declared.trying.Attempt.{Attempt}
 use Rattle.queue_controller.specs.declared.trying.Attempt.TheVariants as attempt
 
--- The acts that the pass has seen, its own, and its room are as before, and it holds no word.
+-- The acts that the pass has seen, its own acts and its room are unchanged, and it holds no word.
 pub record Unserved (v w : Sight) : Type 0 where
   pub seen : w.seen ≡ v.seen
   pub own : w.own ≡ v.own
@@ -23,12 +23,12 @@ pub record Unserved (v w : Sight) : Type 0 where
   pub queue : w.queue ≡ v.queue
   pub idle : IsIdle w
 
--- one word was found held, this one
+-- one word was found held: this one
 pub record FoundHeld (word : ℕ) (v w : Sight) : Type 0 where
   pub found : w.found ≡ v.found + 1
   pub last : w.found_last ≡ word
 
--- One of these words was found held, while the pass held those before it. No book was given back.
+-- One of these words was found held, while the pass held exactly those before it. No book was given back.
 pub record StoppedAt (words : List ℕ) (word : ℕ) (v w : Sight) : Type 0 where
   pub found : FoundHeld word v w
   pub held : Before w.held_when_found word words
@@ -36,15 +36,14 @@ pub record StoppedAt (words : List ℕ) (word : ℕ) (v w : Sight) : Type 0 wher
   pub given_back : w.given_back ≡ v.given_back
   pub given_back_log : w.given_back_log ≡ v.given_back_log
 
--- The word is of a zone that the act may read or change, or the book's. Or the book was given back once, since another zone
--- had to give way to the act, or it was refused, and the word is of any zone, or the book's. The pass then held just the
--- words before it.
+-- The word is of a zone that the act may read or change, or the book's. Or the book was given back once, since another zone had to give way
+-- to the act, or it was refused, and the word is any zone's or the book's. The pass then held exactly the words before it.
 abbrev pub WasNeeded : GeometryFields → Act → ℕ → Sight → Sight → Type 0
 WasNeeded g a word v w =
     (Before w.held_when_found word (words_for (reach g a)) × (w.given_back ≡ v.given_back))
     ⊎ (Before w.held_when_found word (words_for (zones g)) × (w.given_back ≡ v.given_back + 1) × (wants_room g w.given_back_log a ≡ true))
 
--- A word that the act needs was found held. All else is as it was.
+-- A word that the act needs was found held. Everything else is unchanged.
 pub record IsBusy (g : GeometryFields) (a : Act) (word : ℕ) (payload out out' : List ℕ) (v w : Sight) : Type 0 where
   pub found : FoundHeld word v w
   pub needed : WasNeeded g a word v w

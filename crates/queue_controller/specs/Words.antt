@@ -12,11 +12,11 @@ pub record HoldsNothing (desk : DeskId) (p : Pass) : Type 0 where
   pub idle : IsIdle p.sight
   pub none_open : p.opened ≡ None
 
--- where the numbers make a drive, these are a range of its zones
+-- if the geometry is a drive's, these are a range of its zones
 abbrev pub AreInRow : GeometryFields → List ℕ → Type 0
 AreInRow g zs = IsGeometry g → IsRange g zs
 
--- The pass has the cells of these zones. All else stays.
+-- The pass has the cells of these zones. Nothing else changed.
 pub record HasZones (zs : List ℕ) (p p' : Pass) : Type 0 where
   pub pass : p' ≡ knowing p (with_cells p.sight p'.sight.cells)
   pub zones : zones_held p'.sight ≡ zs
@@ -25,7 +25,7 @@ pub record HasZones (zs : List ℕ) (p p' : Pass) : Type 0 where
 abbrev pub Before : List ℕ → ℕ → List ℕ → Type 0
 Before held word words = (rest : List ℕ) × (words ≡ held ++ word ∷ rest)
 
--- The word of one of these zones was found held, and the pass has the zones before it. All else stays.
+-- The word of one of these zones was found held, and the pass has the zones before it. Nothing else changed.
 pub record HasStopped (zs : List ℕ) (word : ℕ) (p p' : Pass) : Type 0 where
   pub pass : p' ≡ knowing p (missed (with_cells p.sight p'.sight.cells) word)
   pub before : Before (zone_words (zones_held p'.sight)) word (zone_words zs)

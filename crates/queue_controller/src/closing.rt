@@ -39,7 +39,7 @@ fn gather(drive: &Solo, mut said: Vec<VecDeque<Reply>>, mut replies: Replies) ->
     replies
 }
 
-/// Closes the desk of a session that was served.
+/// Closes the desk of a session once all its acts are served.
 pub(crate) fn finish(shop: Shop, asked: Snapshot<Session>) -> Outcome
     requires { IsServed asked.value shop }
     ensures { Runs asked.value result }

@@ -1,15 +1,15 @@
-/// What is called while commands are served. A gate can change no answer.
+/// Hooks that are called while commands are served. A gate can't change any answer.
 pub trait Gate {
-    /// Comes before a command takes a lock word of its own, with the number of the command in its
-    /// queue, from 0. The queue may hold words that it kept from the command before.
+    /// Called before a command takes a lock word of its own. `number` is the command's number in
+    /// its queue, from 0. The queue may hold words that it kept from the command before.
     fn before(&self, queue: u16, number: u32);
 
-    /// Comes where a command's bytes have moved before the book's lock word is taken, with the same
+    /// Called if a command's bytes have moved before the book's lock word is taken, with the same
     /// number.
     fn moved(&self, queue: u16, number: u32);
 }
 
-/// Does nothing.
+/// A gate that does nothing.
 pub struct FreeGate;
 
 impl Gate for FreeGate {

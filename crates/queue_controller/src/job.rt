@@ -12,14 +12,14 @@ use zns_io::{Bytes, pad};
 use zone_desk::{Desk, QueuePass};
 use zone_model::{Act, Reply};
 
-/// An act that is to be served, with room for what it reads. The room stays untouched until then.
+/// An act to serve, with room for what it reads. The room isn't touched until then.
 #[derive(Drop)]
 pub struct Prepared {
     pub act: Act,
     pub out: Vec<u8>,
 }
 
-/// A worker's pass, the acts that it has yet to serve, and the replies to those that it served.
+/// A worker's pass, the acts that are left to serve, and the replies to those already served.
 #[derive(Drop)]
 pub struct Job {
     pub pass: QueuePass,
@@ -59,7 +59,7 @@ fn reply_to<R: Wait, G: Gate>(
     }
 }
 
-/// Serves all acts of a job, in their order.
+/// Serves all acts of a job, in order.
 pub(crate) fn work<R: Wait, G: Gate>(rt: &R, desk: &Desk, job: &mut Job, gate: &G)
     requires { Starts desk.now job.old }
     ensures { Finishes desk.now job.old job.new }

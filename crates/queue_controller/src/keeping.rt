@@ -1,4 +1,6 @@
-//! A queue that serves several commands of the same zones under one taking of their words.
+//! Serving several commands under one taking of lock words: a queue keeps the words of a command's
+//! zones for further commands of the same reach. Once another zone had to give way, it keeps the
+//! words of all zones, which serve commands of any reach.
 ghost use Rattle.std.specs.Prelude.{◌≡◌, ◌<◌, true, length};
 ghost use Rattle.solo_drive.specs.Drives.{act_of};
 ghost use Rattle.solo_drive.specs.Reaching.{zones_of};
@@ -18,7 +20,8 @@ use std::sync::Wait;
 use zns_io::Bytes;
 use zone_desk::{Desk, QueuePass};
 
-// How many commands a queue serves under one taking of its zones' words. Others may wait for them.
+// The most commands that a queue serves under one taking of its zones' words. Other queues may be
+// waiting for them.
 const MOST: u32 = 256;
 
 /// The words that a queue keeps from one command to the next.
@@ -26,11 +29,11 @@ const MOST: u32 = 256;
 pub(crate) enum KeptWords {
     Nothing,
 
-    /// Those of the zones of a reach. They serve commands of the same reach.
+    /// The words of the zones of a reach. They serve commands of the same reach.
     Zones(Reach),
 
-    /// Those of all zones, taken for a command for which another zone had to give way. They serve
-    /// every command, since the next one mostly needs them too.
+    /// The words of all zones, taken for a command for which another zone had to give way. They
+    /// serve every command, and the next one mostly needs them too.
     All,
 }
 
@@ -62,7 +65,7 @@ impl Kept {
         }
     }
 
-    // Whether one more command, of this reach, may be served under the words that are kept.
+    // Whether one more command, of this reach, may be served under the kept words.
     fn goes_on(&self, reach: Reach) -> bool
         ensures serves { result ≡ true → Serve self.now.words reach }
         ensures some { result ≡ true → 0 < self.now.left }
@@ -76,8 +79,8 @@ impl Kept {
     }
 }
 
-// Has words that serve a command of a reach: those that were kept, or new ones, once all others are
-// given back.
+// Makes sure that the pass has words that serve a command of a reach: the kept ones, or new ones
+// once all others are given back.
 fn take_up<R: Wait>(rt: &R, desk: &Desk, pass: &mut QueuePass, kept: &mut Kept, reach: Reach)
     requires holds { Holds desk.now (kept_zones desk.now.geometry kept.old.words) pass.old }
     requires row { AreInRow desk.now.geometry (zones_of desk.now.geometry reach) }
@@ -95,8 +98,8 @@ fn take_up<R: Wait>(rt: &R, desk: &Desk, pass: &mut QueuePass, kept: &mut Kept, 
     *kept = Kept::taken(KeptWords::Zones(reach));
 }
 
-/// Serves one command of the pass's queue as `serve` does, under the words that were kept, where
-/// they serve it. It keeps the words under which it served the command.
+/// Serves one command of the pass's queue as `serve` does, under the kept words if they serve it.
+/// Keeps the words under which it served the command.
 pub(crate) fn serve_keeping<R: Wait, G: Gate>(
     rt: &R,
     desk: &Desk,

@@ -1,4 +1,4 @@
-//! Takes all the memory of a session.
+//! Takes all memory that a session needs.
 ghost use Rattle.std.specs.Prelude.{◌≡◌, ◌+◌, ◌<◌, ◌≤◌, ◌^◌, ℕ, [], length, replicate, All, IfOk, OnOk};
 ghost use Rattle.zone_model.specs.Sessions.{IsAct};
 ghost use Rattle.zone_desk.specs.Sights.{main_sight, made};
@@ -19,7 +19,7 @@ use zns_types::Geometry;
 use zone_desk::{Desk, MainPass, PassErr, QueuePass};
 use zone_model::{Act, Replies, Reply};
 
-/// All that a session needs, with the room for what it leaves.
+/// All that a session needs, including the room for what it leaves.
 #[derive(Drop)]
 pub(crate) struct Shop {
     pub(crate) desk: Desk,
@@ -52,7 +52,7 @@ fn empty_lists(alloc: Global, queues: u16) -> Result<Vec<Vec<Prepared>>, NoMemor
     Ok(lists)
 }
 
-// The acts of each queue, in their order.
+// The acts of each queue, in order.
 fn deal(alloc: Global, g: &Geometry, acts: Vec<Act>) -> Result<Vec<Vec<Prepared>>, NoMemory>
     requires { All (IsAct g.now.fields) acts.items }
     ensures { IfOk result (λ v. AreDealt g.now.fields acts.items v.items) }
@@ -102,7 +102,7 @@ fn new_job(
     })
 }
 
-// A job for each queue, from queue 0 on.
+// A job for each queue, in the order of the queues.
 fn jobs_for(
     alloc: Global,
     desk: &Desk,
@@ -127,7 +127,7 @@ fn jobs_for(
     Ok(jobs)
 }
 
-/// Takes all the memory of a session, and serves nothing.
+/// Takes all memory that a session needs, and serves nothing.
 pub(crate) fn open(alloc: Global, session: Session) -> Result<Shop, NoMemory>
     ensures { IfOk result (Opens session) }
 {

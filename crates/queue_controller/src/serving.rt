@@ -15,8 +15,8 @@ use std::sync::Wait;
 use zns_io::Bytes;
 use zone_desk::{Desk, QueuePass};
 
-// Serves a command on the zones that the pass has: where its bytes can move now, it does so, and
-// the book is taken for the commit alone.
+// Serves a command on the zones that the pass has. If its bytes can move now, they do, and the book
+// is taken only for the commit.
 fn serve_taken<R: Wait, G: Gate>(
     rt: &R,
     desk: &Desk,
@@ -39,8 +39,8 @@ fn serve_taken<R: Wait, G: Gate>(
     desk.apply_act(pass, sqe, payload, out)
 }
 
-// Serves a command on the zones that the pass has, and keeps them; or gives all back, where another
-// zone has to give way.
+// Serves a command on the zones that the pass has, and keeps them. If another zone has to give way,
+// gives everything back instead.
 pub(crate) fn serve_here<R: Wait, G: Gate>(
     rt: &R,
     desk: &Desk,
@@ -66,7 +66,8 @@ pub(crate) fn serve_here<R: Wait, G: Gate>(
     }
 }
 
-// Takes the words of a reach and the book's, serves the command if it can, and gives all back.
+// Takes the words of a reach and the book's, serves the command if it can, and gives everything
+// back.
 pub(crate) fn serve_over<R: Wait, G: Gate>(
     rt: &R,
     desk: &Desk,
@@ -90,11 +91,11 @@ pub(crate) fn serve_over<R: Wait, G: Gate>(
     applied
 }
 
-/// Serves one command of the pass's queue, and waits until the lock words of its zones and of the
-/// book are free for it, or those of all zones where another may have to give way. If the call
-/// returns, the pass has seen the history that the desk then had, with this act at its end, and the
-/// answer is the drive's to the act there. What the act reads stands in front of `out`; the rest of
-/// `out` stays.
+/// Serves one command of the pass's queue. Waits until the lock words of its zones and of the book
+/// are free for it, or those of all zones and of the book if another zone may have to give way. If
+/// the call returns, the pass has seen the history that the desk then had, with this act at its
+/// end, and the answer is the drive's to the act there. What the act reads is at the front of
+/// `out`; the rest of `out` is unchanged.
 pub fn serve<R: Wait, G: Gate>(
     rt: &R,
     desk: &Desk,

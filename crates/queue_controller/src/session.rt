@@ -16,7 +16,7 @@ use std::thread::Threads;
 use zns_io::NoMemory;
 use zone_desk::Desk;
 
-// Each job by a worker of its own.
+// Serves each job with a worker of its own.
 fn work_all<R: Threads + Wait + Sync, G: Gate + Sync>(
     rt: &R,
     desk: &Desk,
@@ -33,11 +33,11 @@ fn work_all<R: Threads + Wait + Sync, G: Gate + Sync>(
     }
 }
 
-/// Serves a session, each queue by a worker of its own, in its own order. All memory is taken
-/// before the first act is served.
+/// Serves a session with a worker for each queue, which serves the queue's acts in order. All
+/// memory is taken before the first act is served.
 ///
-/// If it returns, the drive's journal is an order of the session's acts, and each act was answered
-/// as by a drive that serves one act at a time in that order.
+/// If it returns an outcome, the drive's journal is an order of the session's acts, and each act
+/// was answered as by a drive that serves one act at a time in that order.
 pub fn run_session<R: Threads + Wait + Sync, G: Gate + Sync>(
     rt: &R,
     alloc: Global,

@@ -12,8 +12,8 @@ use zns_io::Bytes;
 use zns_types::{Code, Geometry, GeometryFields};
 use zone_desk::{Desk, QueuePass};
 
-// Four zones of 48 blocks of 512 bytes, of which three may be active and two opened, and the
-// queues 0 to 2.
+// Four zones of 48 blocks of 512 bytes, of which at most three may be active and two opened, and
+// the queues 0 to 2.
 const DRIVE: [u8; 52] = *b"ZNSQ0001\
     \x09\x00\x00\x00\x04\x00\x00\x00\x40\x00\x00\x00\x00\x00\x00\x00\
     \x30\x00\x00\x00\x00\x00\x00\x00\x03\x00\x00\x00\x02\x00\x00\x00\
@@ -30,7 +30,7 @@ struct Command {
     bytes: u16,
 }
 
-// Opens the zone that begins with a block.
+// Opens the zone that begins with this block.
 fn opens(queue: u8, slba: u8) -> Command {
     Command {
         queue,
@@ -41,7 +41,7 @@ fn opens(queue: u8, slba: u8) -> Command {
     }
 }
 
-// The session of commands, as its file gives it.
+// The session of these commands, as its file gives it.
 fn session(alloc: Global, commands: &[Command]) -> Result<Session, Fail> {
     let mut file = Vec::from_slice(alloc, &DRIVE)?;
     file.extend_from_slice(&[
@@ -157,7 +157,7 @@ fn two_queues_run_side_by_side(rt: HostRuntime) -> Result<(), Fail> {
     Ok(())
 }
 
-// Each has its zone's word and not the book's, and is seen by the other.
+// Each has its zone's word but not the book's, and is seen by the other.
 #[test]
 fn two_queues_move_bytes_side_by_side(rt: HostRuntime) -> Result<(), Fail> {
     let alloc = rt.alloc();
@@ -219,8 +219,8 @@ impl Gate for Counting {
     fn moved(&self, _queue: u16, _number: u32) {}
 }
 
-// Where memory runs out for a session, none of its commands was served. That shows in runs of this
-// test in which each request for memory is refused in turn.
+// If memory runs out for a session, none of its commands was served. That shows in runs of this
+// test that refuse each request for memory in turn.
 #[test]
 fn all_commands_are_served_or_none(rt: HostRuntime) -> Result<(), Fail> {
     let alloc = rt.alloc();
@@ -254,7 +254,7 @@ const SMALL: GeometryFields = GeometryFields {
     depth: 64,
 };
 
-// What became of a write of one block: its status, or the word that was held.
+// The outcome of a write of one block: its status, or the word that was held.
 #[derive(Clone, Copy, PartialEq, Eq, Debug)]
 enum Came {
     Served(Option<Code>),
@@ -308,7 +308,7 @@ fn all_words_only_where_one_gives_way(rt: HostRuntime) -> Result<(), Fail> {
         try_write(alloc, &desk, &mut first, 128)?,
         Came::Served(Some(Code::SUCCESS))
     );
-    // Three zones are active now, and no more may be: none has to give way to a fourth.
+    // Three zones are active now, which is the limit, and none has to give way to a fourth.
     desk.take_word(&rt, &mut third, 2);
     assert_eq!(rt;
         try_write(alloc, &desk, &mut first, 192)?,

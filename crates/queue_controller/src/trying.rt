@@ -1,4 +1,4 @@
-//! Serves a command without waiting for anybody.
+//! Serves a command without waiting.
 ghost use Rattle.std.specs.Prelude.{length};
 ghost use Rattle.solo_drive.specs.Drives.{act_of};
 ghost use Rattle.solo_drive.specs.Parts.{AreLent};
@@ -13,24 +13,25 @@ use sqe_codec::Sqe;
 use zns_io::Bytes;
 use zone_desk::{Desk, QueuePass};
 
-/// What became of a command that waits for nobody.
+/// The outcome of a command that never waits.
 #[derive(Drop)]
 pub enum Tried {
     /// It was served.
     Served(Posted),
 
-    /// A lock word that it needs was found held, and it was not served. The host data comes back.
+    /// A lock word that it needs was held, and it wasn't served. The host data comes back.
     Busy { word: u32, payload: Bytes },
 }
 
-// What became of a command over some zones.
+// The outcome of one attempt at a command, over some zones.
 #[derive(Drop)]
 pub(crate) enum Attempt {
     Ended(Applied),
     Stopped { word: u32, payload: Bytes },
 }
 
-// Takes the words of a reach and the book's, serves the command if it can, and gives all back.
+// Takes the words of a reach and the book's, serves the command if it can, and gives everything
+// back.
 fn try_over(
     desk: &Desk,
     pass: &mut QueuePass,
@@ -62,10 +63,10 @@ fn try_over(
     Attempt::Ended(applied)
 }
 
-/// Serves one command of the pass's queue as `serve` does, and waits for nobody. Where a lock word
-/// that it needs is held, it is not served, and what the pass has seen and `out` stay: the word is
-/// the book's, 1, or 2 + z of a zone z that the command may read or change, or of any zone where
-/// another may have to give way.
+/// Serves one command of the pass's queue as `serve` does, but never waits. If a lock word that it
+/// needs is held, the command isn't served, and what the pass has seen and `out` are unchanged.
+/// That word is the book's, 1, or 2 + z of a zone z that the command may read or change, or of any
+/// zone if another may have to give way.
 pub fn try_serve(
     desk: &Desk,
     pass: &mut QueuePass,
@@ -88,7 +89,7 @@ pub fn try_serve(
     }
 }
 
-// The same over all zones.
+// `try_serve` over all zones.
 fn try_all(desk: &Desk, pass: &mut QueuePass, sqe: Sqe, payload: Bytes, out: &mut [u8]) -> Tried
     requires { MayServe desk.now pass.old sqe payload (length out.old) }
     ensures free { HoldsNothing desk.now pass.new }

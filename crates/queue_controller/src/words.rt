@@ -1,4 +1,4 @@
-//! Takes the words of a command's zones, rising.
+//! Takes the words of a command's zones in rising order.
 ghost use Rattle.std.specs.Prelude.{◌≡◌, ◌+◌, ◌-◌, ◌<◌, ◌≤◌};
 ghost use Rattle.std.specs.List.{range_with_len};
 ghost use Rattle.solo_drive.specs.Reaching.{zones_of};
@@ -9,10 +9,10 @@ use std::sync::Wait;
 use zns_types::Geometry;
 use zone_desk::{Desk, QueuePass};
 
-/// The book's lock word. Those of the zones come after it.
+/// The book's lock word. The zones' words follow it.
 pub(crate) const BOOK: u32 = 1;
 
-// The zones of a reach are those from the first on before the second.
+// The zones of a reach: from the first of the two on, up to but not including the second.
 fn bounds(g: &Geometry, reach: Reach) -> (u32, u32)
     requires { AreInRow g.now.fields (zones_of g.now.fields reach) }
     ensures zones { range_with_len result.0 (result.1 - result.0) ≡ zones_of g.now.fields reach }
@@ -32,7 +32,7 @@ fn bounds(g: &Geometry, reach: Reach) -> (u32, u32)
     }
 }
 
-// Takes the words of zones from the first on before the second.
+// Takes the words of the zones from `first` on, up to but not including `end`.
 fn take_between<R: Wait>(rt: &R, desk: &Desk, pass: &mut QueuePass, first: u32, end: u32)
     requires free { HoldsNothing desk.now pass.old }
     requires order { first ≤ end }
@@ -45,7 +45,7 @@ fn take_between<R: Wait>(rt: &R, desk: &Desk, pass: &mut QueuePass, first: u32, 
     }
 }
 
-/// Waits for the words of a reach's zones, one after the other.
+/// Takes the words of a reach's zones one after another, and waits for each.
 pub(crate) fn take_zones<R: Wait>(rt: &R, desk: &Desk, pass: &mut QueuePass, reach: Reach)
     requires free { HoldsNothing desk.now pass.old }
     requires row { AreInRow desk.now.geometry (zones_of desk.now.geometry reach) }
@@ -55,7 +55,8 @@ pub(crate) fn take_zones<R: Wait>(rt: &R, desk: &Desk, pass: &mut QueuePass, rea
     take_between(rt, desk, pass, first, end);
 }
 
-// Takes the words of zones from the first on before the second, and stops at one that is held.
+// Takes the words of the zones from `first` on, up to but not including `end`. Stops at a word that
+// is held, and returns it.
 fn try_between(desk: &Desk, pass: &mut QueuePass, first: u32, end: u32) -> Option<u32>
     requires free { HoldsNothing desk.now pass.old }
     requires order { first ≤ end }
@@ -71,7 +72,8 @@ fn try_between(desk: &Desk, pass: &mut QueuePass, first: u32, end: u32) -> Optio
     None
 }
 
-/// Takes the words of a reach's zones, one after the other, and stops at one that is held.
+/// Takes the words of a reach's zones one after another. Stops at a word that is held, and returns
+/// it.
 pub(crate) fn try_zones(desk: &Desk, pass: &mut QueuePass, reach: Reach) -> Option<u32>
     requires free { HoldsNothing desk.now pass.old }
     requires row { AreInRow desk.now.geometry (zones_of desk.now.geometry reach) }

@@ -1,4 +1,4 @@
--- Which rule of all is the first that is broken, where one of a part is.
+-- Which of all rules is the first broken one, by the part that it is in.
 use Rattle.std.proofs.Common.{◌≡◌, ℕ, ◌<◌, ◌≤◌, true, List, [], ◌∷◌, ◌++◌, length, None, Some, refl, ◌∙◌, arith}
 use Rattle.std.proofs.lemmas.Bool.Decides.{nat_tests}
 use Rattle.std.specs.Prelude.{slice_index, nat_lt}
@@ -33,7 +33,7 @@ first_of-back rows more NoMemory h f = tt
 first_of-back rows more (Bad reason offset) h f = first_holding-append_none rows more h ∙ f
 first_of-back rows more (Large which number) h f = first_holding-append_none rows more h ∙ f
 
--- where no rule is broken, memory ran out
+-- if no rule is broken, the program is out of memory
 pub no_memory : (rows : List (Row FileErr)) (e : FileErr) → first_holding rows ≡ None → IsFirstOf rows e → e ≡ NoMemory
 no_memory rows NoMemory h f = refl
 no_memory rows (Bad reason offset) h f = absurd cc
@@ -51,14 +51,14 @@ front-records bytes g n e same count h f =
     let there : IsFirstOf (records_rows (count_in bytes) (geometry_in bytes) bytes 64 0 0) e = rw (← same, ← count) f in
     first_of-back (header_rows bytes) (records_rows (count_in bytes) (geometry_in bytes) bytes 64 0 0) e h there
 
--- what was read of bytes in which no rule is broken
+-- what was read from bytes that break no rule
 pub record WasRead (bytes : List ℕ) (read : Recorded) (end : ℕ) : Type 0 where
   pub session : read ≡ session_in bytes
   pub last : end ≡ session_end bytes
   pub passed : first_holding (front_rows bytes) ≡ None
   pub front : IsFront bytes
 
--- a header, and as many acts as it says
+-- a header, and as many acts as it states
 pub was_read : (bytes : List ℕ) (g : GeometryFields) (commands : ℕ) (acts : List Act) (end : ℕ) → ((i : ℕ) → slice_index bytes i < 256) → g ≡ geometry_in bytes → IsGeometry g → commands ≡ count_in bytes
     → first_holding (header_rows bytes) ≡ None → acts ≡ acts_from commands 64 bytes → end ≡ end_from commands 64 bytes → first_holding (records_rows commands g bytes 64 0 0) ≡ None
     → WasRead bytes (record { geometry = g; acts = acts }) end

@@ -1,4 +1,4 @@
--- A session at the front of bytes: what stands there, and when no rule is broken.
+-- A session at the front of bytes: what the bytes are, and when no rule is broken.
 use Rattle.std.proofs.Common.{Bool, true, false, not, ◌≡◌, ℕ, ◌<◌, ◌≤◌, List, ◌++◌, map, length, take, drop, None, refl, sym, ap, ◌∙◌, arith, codes}
 use Rattle.std.proofs.lemmas.Bool.Decides.{nat_tests}
 use Rattle.std.proofs.lemmas.List.{append_assoc, length-append, length-drop, take_at}
@@ -28,7 +28,7 @@ pub not_true : (b : Bool) → b ≡ true → not b ≡ false
 not_true true e = refl
 not_true false e = absurd cc
 
--- what the rules of the header stand for
+-- the facts that the rules of the header state
 record Heads (bytes : List ℕ) : Type 0 where
   pub long : 64 ≤ length bytes
   pub magic : take 8 bytes ≡ codes "ZNSQ0001"
@@ -48,7 +48,7 @@ heads-passed bytes e =
       zeros = grind (arith, nat_tests, nonzero);
     }
 
--- what begins with a header, where no rule of it is broken
+-- if no rule of the header is broken, the bytes begin with a header
 pub header_front : (bytes : List ℕ) → ((i : ℕ) → slice_index bytes i < 256) → first_holding (header_rows bytes) ≡ None → bytes ≡ header_bytes (geometry_in bytes) (count_in bytes) ++ drop 64 bytes
 header_front bytes fits e =
     let h : Heads bytes = heads-passed bytes e in
@@ -68,7 +68,7 @@ pub record IsFront (bytes : List ℕ) : Type 0 where
   pub spelled : spelling (session_in bytes) ++ drop (session_end bytes) bytes ≡ bytes
   pub within : session_end bytes ≤ length bytes
 
--- where no rule is broken
+-- if no rule is broken, they do
 pub is_front : (bytes : List ℕ) → ((i : ℕ) → slice_index bytes i < 256) → IsGeometry (geometry_in bytes) → first_holding (front_rows bytes) ≡ None → IsFront bytes
 unfolding front_rows spelling
 is_front bytes fits valid e =
@@ -91,13 +91,13 @@ is_front bytes fits valid e =
       within = r.within;
     }
 
--- the front of bytes, by what comes after it
+-- the front of the bytes, by what comes after it
 pub taken : (front : List ℕ) (end : ℕ) (bytes : List ℕ) → end ≤ length bytes → front ++ drop end bytes ≡ bytes → take end bytes ≡ front
 taken front end bytes h e =
     let long : length front ≡ end = omega (arith, ap length e, length-append front (drop end bytes), length-drop end bytes) in
     ap (take end) (sym e) ∙ take_at front (drop end bytes) end long
 
--- the bytes begin with this session, and then come others
+-- the bytes begin with this session, and then others follow
 pub record BeginsWith (bytes : List ℕ) (s : Recorded) (after : List ℕ) : Type 0 where
   pub session : session_in bytes ≡ s
   pub end : session_end bytes ≡ length (spelling s)

@@ -1,4 +1,4 @@
--- The bytes of a header and the numbers that stand in them.
+-- The bytes of a header and the numbers in them.
 use Rattle.std.proofs.Common.{◌≡◌, ℕ, ◌+◌, ◌*◌, ◌^◌, ◌<◌, ◌≤◌, List, [], ◌∷◌, ◌++◌, length, take, drop, refl, sym, ap, ◌∙◌, arith, codes}
 use Rattle.std.proofs.Math.Nat.{le-mul_of_pos_right, mul_comm}
 use Rattle.std.proofs.lemmas.List.{drop_more, get_or-drop}
@@ -14,7 +14,7 @@ use Rattle.zone_model.specs.Sessions.{header_bytes, HasWidths}
 use Rattle.session_file.specs.Places.{geometry_in, count_in}
 use Rattle.session_file.proofs.RecordPlaces.{joined}
 
--- the parts of a header and what follows it
+-- the parts of a header, and what follows it
 parts_of : GeometryFields → ℕ → List ℕ → List ℕ
 parts_of g n rest =
     codes "ZNSQ0001"
@@ -44,7 +44,7 @@ four_bytes bytes h =
     let fourth : 11 < length bytes = omega arith in
     rw (drop_more bytes 8 0 first, drop_more bytes 9 0 second, drop_more bytes 10 0 third, drop_more bytes 11 0 fourth) refl
 
--- the header is that of its numbers
+-- the header is the one for its numbers
 pub header_bytes-in : (bytes : List ℕ) → 64 ≤ length bytes → take 8 bytes ≡ codes "ZNSQ0001" → field 56 8 bytes ≡ 0 → ((i : ℕ) → slice_index bytes i < 256) → header_bytes (geometry_in bytes) (count_in bytes) ++ drop 64 bytes ≡ bytes
 unfolding geometry_in count_in parts_of
 header_bytes-in bytes long magic zeros fits =
@@ -64,7 +64,7 @@ header_bytes-in bytes long magic zeros fits =
     (joined 52 4 56 bytes _ _ refl (little_bytes-field 52 4 bytes (omega arith) fits)
     (joined 56 8 64 bytes _ _ refl (ap (little_bytes 8) (sym zeros) ∙ little_bytes-field 56 8 bytes (omega arith) fits) refl)))))))))))))
 
--- what stands in bytes that begin with a header
+-- the numbers in bytes that begin with a header
 pub record Begins (bytes : List ℕ) (g : GeometryFields) (n : ℕ) (after : List ℕ) : Type 0 where
   pub geometry : geometry_in bytes ≡ g
   pub count : count_in bytes ≡ n
@@ -73,7 +73,7 @@ pub record Begins (bytes : List ℕ) (g : GeometryFields) (n : ℕ) (after : Lis
   pub rest : drop 64 bytes ≡ after
   pub long : 64 ≤ length bytes
 
--- numbers of a drive are their fourteen parts
+-- a drive's numbers are their fourteen parts
 same_geometry : (block_exp mdts zasl flags zones zone_size capacity active_limit open_limit windows granule window queues depth : ℕ) (g : GeometryFields) → block_exp ≡ g.block_exp → mdts ≡ g.mdts → zasl ≡ g.zasl → flags ≡ g.flags → zones ≡ g.zones → zone_size ≡ g.zone_size → capacity ≡ g.capacity → active_limit ≡ g.active_limit → open_limit ≡ g.open_limit → windows ≡ g.windows → granule ≡ g.granule → window ≡ g.window → queues ≡ g.queues → depth ≡ g.depth → record { block_exp = block_exp; mdts = mdts; zasl = zasl; flags = flags; zones = zones; zone_size = zone_size; capacity = capacity; active_limit = active_limit; open_limit = open_limit; windows = windows; granule = granule; window = window; queues = queues; depth = depth } ≡ g
 same_geometry block_exp mdts zasl flags zones zone_size capacity active_limit open_limit windows granule window queues depth g e1 e2 e3 e4 e5 e6 e7 e8 e9 e10 e11 e12 e13 e14 = rw (e1, e2, e3, e4, e5, e6, e7, e8, e9, e10, e11, e12, e13, e14) refl
 
@@ -112,7 +112,7 @@ begins bytes g n after h w few e =
       long = rw start (omega arith);
     }
 
--- the numbers of a header fit their bytes
+-- the numbers of a header fit in their bytes
 pub widths_in : (bytes : List ℕ) → ((i : ℕ) → slice_index bytes i < 256) → HasWidths (geometry_in bytes)
 unfolding geometry_in
 widths_in bytes fits = record {

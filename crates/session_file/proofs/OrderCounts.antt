@@ -1,4 +1,4 @@
--- How many acts each queue has, one act more or one less.
+-- The number of acts of each queue, with one act more or one fewer.
 use Rattle.std.proofs.Common.{◌≡◌, ℕ, ◌+◌, ◌-◌, ◌<◌, ◌≤◌, ◌≢◌, ⊎_elim, Bool, true, false, List, length, take, get_or, refl, sym, ap, ◌∙◌, arith}
 use Rattle.std.proofs.lemmas.Bool.{cases_lt}
 use Rattle.std.proofs.lemmas.Bool.Decides.{nat_tests}
@@ -12,7 +12,7 @@ use Rattle.zone_model.specs.Sessions.{is_of, rest_of}
 use Rattle.session_file.specs.Orders.{AreCounts}
 use Rattle.session_file.proofs.OrderLists.{counted-next, next-count, next-few}
 
--- the first so many acts have no more of a queue than they are
+-- among the first acts, a queue has no more acts than there are
 pub counted_at_most : (acts : List Act) (i queue : ℕ) → i ≤ length acts → count_by (is_of queue) (take i acts) ≤ i
 counted_at_most acts i queue h = omega (arith, count_by-le-length (is_of queue) (take i acts), length-take-le i acts h)
 
@@ -52,7 +52,7 @@ counts-less left acts queue small within some all q few = go (queue == q) refl
         let kept : count_by (is_of q) acts ≡ count_by (is_of q) (rest_of queue acts) = omega arith in
         get_or-set_other left queue q (slice_index left queue - 1) 0 other ∙ all q few ∙ kept
 
--- a queue of which no act is counted has none
+-- a queue whose count is 0 has no act
 pub no_more : (left : List ℕ) (acts : List Act) (queue : ℕ) → (queue < 17 → slice_index left queue ≡ 0) → AreCounts acts left → AllByRecursion (λ (a : Act). a.queue < 17) acts → count_by (is_of queue) acts ≡ 0
 no_more left acts queue none all few = ⊎_elim (λ h. zero_from h) (λ h. omega arith) (cases_lt 0 (count_by (is_of queue) acts))
   where

@@ -1,4 +1,4 @@
--- The front of a result: what stands there, and when no rule is broken.
+-- The front of a result: what its bytes are, and when no rule is broken.
 use Rattle.std.proofs.Common.{◌≡◌, ℕ, zero, suc, ◌+◌, ◌*◌, ◌<◌, ◌≤◌, List, [], ◌∷◌, ◌++◌, length, take, drop, codes, None, Some, refl, sym, ap, ◌∙◌, arith}
 use Rattle.std.proofs.lemmas.Bool.Decides.{nat_tests}
 use Rattle.std.proofs.lemmas.List.{drop-drop, length-drop, length-append, take_at}
@@ -22,7 +22,7 @@ use Rattle.session_file.proofs.Fronts.{not_false, not_true}
 use Rattle.session_file.proofs.RecordPlaces.{joined}
 use Rattle.session_file.proofs.OrderPlaces.{order_counts, IsRead, is_read, queues_spelled}
 
--- what the rules of the front stand for
+-- the facts that the rules of the front state
 pub record Heads (bytes : List ℕ) (from n : ℕ) : Type 0 where
   pub long : from + 12 + 2 * n ≤ length bytes
   pub magic : take 8 (drop from bytes) ≡ codes "ZNSR0001"
@@ -52,7 +52,7 @@ length-flat_map_two : (queues : List ℕ) → length (flat_map (little_bytes 2) 
 length-flat_map_two [] = refl
 length-flat_map_two (q ∷ queues) = let rest : length (flat_map (little_bytes 2) queues) ≡ 2 * length queues = length-flat_map_two queues in omega arith
 
--- the front is spelled there
+-- the bytes spell the front
 pub order_spelled : (bytes : List ℕ) (from n : ℕ) (order : List ℕ) → ((i : ℕ) → slice_index bytes i < 256) → first_holding (order_front_rows bytes from n) ≡ None → order ≡ queues_from n (from + 12) bytes → take (12 + 2 * length order) (drop from bytes) ≡ order_bytes order
 order_spelled bytes from n order fits e same =
     let h : Heads bytes from n = heads-passed bytes from n e in
@@ -80,7 +80,7 @@ pub result-queues : (bytes : List ℕ) (from : ℕ) (acts : List Act) (e : FileE
 unfolding result_rows
 result-queues bytes from acts e h f = first_of-back (order_front_rows bytes from (length acts)) (order_rows (length acts) bytes (from + 12) acts) e h f
 
--- an order that the bytes spell is the one that is read, and no rule is broken
+-- an order that the bytes spell is the one that is read, and it breaks no rule
 pub record IsOrderOf (bytes : List ℕ) (from : ℕ) (acts : List Act) (order : List ℕ) : Type 0 where
   pub same : queues_from (length acts) (from + 12) bytes ≡ order
   pub passed : first_holding (result_rows bytes from acts) ≡ None

@@ -1,4 +1,4 @@
--- The next act of a queue, and the acts that it leaves.
+-- The next act of a queue, and the acts that remain.
 use Rattle.std.proofs.Common.{◌≡◌, ℕ, ◌+◌, ◌<◌, Bool, true, false, cond, List, [], ◌∷◌, Option, Some, None, refl, ap, ◌∙◌, subst, arith}
 use Rattle.std.proofs.lemmas.Bool.{eqb-true}
 use Rattle.std.specs.Prelude.{count_by, is_some, ◌==◌}
@@ -31,7 +31,7 @@ counted-next queue acts some = by_next (next_of queue acts) refl
     by_next None e = absurd (omega (arith, some, none-next queue acts e))
     by_next (Some a) e = found-next queue acts a e
 
--- how many acts each queue has: one more of this queue than are left
+-- the number of acts of each queue: this queue has one more than remain
 pub next-count : (queue : ℕ) (acts : List Act) → HasNext queue acts → (k : ℕ) → count_by (is_of k) acts ≡ one (queue == k) + count_by (is_of k) (rest_of queue acts)
 next-count queue acts has k =
     let same : has.act.queue ≡ queue = eqb-true has.act.queue queue has.next.of_queue in
@@ -48,7 +48,7 @@ uncounted-next queue acts none = by_next (next_of queue acts) refl
         let own : one (is_of queue a) ≡ 1 = ap one next.of_queue in
         absurd (omega (arith, none, next.count queue, own))
 
--- what holds of all acts holds of the next one
+-- what holds for all acts holds for the next one
 pub next-all : (P : Act → Type 0) (queue : ℕ) (acts : List Act) (a : Act) → AllByRecursion P acts → next_of queue acts ≡ Some a → P a
 next-all P queue [] a all e = absurd (cc e)
 next-all P queue (b ∷ acts) a all e = by_first (is_of queue b) e (next-all P queue acts a all.1)
@@ -57,7 +57,7 @@ next-all P queue (b ∷ acts) a all e = by_first (is_of queue b) e (next-all P q
     by_first true e k = let same : b ≡ a = cc in subst P same all.0
     by_first false e k = k e
 
--- and of those that are left
+-- and for those that remain
 pub rest-all : (P : Act → Type 0) (queue : ℕ) (acts : List Act) → AllByRecursion P acts → AllByRecursion P (rest_of queue acts)
 rest-all P queue [] h = tt
 rest-all P queue (a ∷ acts) h = by_first (is_of queue a) (rest-all P queue acts h.1)
@@ -66,14 +66,14 @@ rest-all P queue (a ∷ acts) h = by_first (is_of queue a) (rest-all P queue act
     by_first true k = h.1
     by_first false k = (h.0, k)
 
--- a queue with acts is one of the drive's
+-- a queue that has acts is one of the drive's
 pub next-few : (queue : ℕ) (acts : List Act) → AllByRecursion (λ (a : Act). a.queue < 17) acts → HasNext queue acts → queue < 17
 next-few queue acts all has =
     let small : has.act.queue < 17 = next-all (λ (a : Act). a.queue < 17) queue acts has.act all has.found in
     let same : has.act.queue ≡ queue = eqb-true has.act.queue queue has.next.of_queue in
     rw (← same) small
 
--- acts of which no queue has any are none
+-- if no queue has any acts, there are none
 pub none-counted : (acts : List Act) → ((k : ℕ) → count_by (is_of k) acts ≡ 0) → acts ≡ []
 none-counted [] h = refl
 none-counted (a ∷ acts) h = let none : count_by (is_of a.queue) (a ∷ acts) ≡ 0 = h a.queue in absurd (omega (arith, none, mine-counts a acts))

@@ -1,4 +1,4 @@
--- The queues that stand in bytes, and the acts that they leave.
+-- The queues that bytes name, and the acts that remain.
 use Rattle.std.proofs.Common.{◌≡◌, ℕ, zero, suc, ◌+◌, ◌-◌, ◌*◌, ◌<◌, ◌≤◌, Bool, true, false, not, List, [], ◌∷◌, ◌++◌, length, drop, None, Some, refl, sym, ap, ◌∙◌, arith}
 use Rattle.std.proofs.lemmas.Bool.{eq-eqb}
 use Rattle.std.proofs.lemmas.List.{append_assoc, drop-drop, nil_from_length}
@@ -20,7 +20,7 @@ use Rattle.session_file.proofs.RecordPlaces.{joined}
 use Rattle.zone_model.proofs.Merging.{count-cons}
 use Rattle.session_file.proofs.OrderLists.{HasNext, some-next, counted-next, next-count, uncounted-next, rest-all, next-few, none-counted}
 
--- the acts that are left where so many queues from an offset on were named
+-- the acts that remain after a number of queues were named
 abbrev pub left_after : ℕ → ℕ → List ℕ → List Act → List Act
 left_after zero at bytes acts = acts
 left_after (suc n) at bytes acts = left_after n (at + 2) bytes (rest_of (field at 2 bytes) acts)
@@ -69,7 +69,7 @@ row_passes : (b : Bool) (e : FileErr) (rest : List _) → first_holding (record 
 row_passes true e rest h = (refl, h)
 row_passes false e rest h = absurd cc
 
--- where each queue has a further act, the queues are those of the acts
+-- if each named queue has another act, the queues are those of the acts
 pub order_counts : (n at : ℕ) (bytes : List ℕ) (acts : List Act) → length acts ≡ n → first_holding (order_rows n bytes at acts) ≡ None → (k : ℕ) → count_by (λ q. q == k) (queues_from n at bytes) ≡ count_by (is_of k) acts
 unfolding order_rows
 order_counts zero at bytes acts l h k = rw (nil_from_length acts l) refl
@@ -81,7 +81,7 @@ order_counts (suc n) at bytes acts l h k =
     let rest : count_by (λ q. q == k) (queues_from n (at + 2) bytes) ≡ count_by (is_of k) (rest_of queue acts) = order_counts n (at + 2) bytes (rest_of queue acts) short p.1 k in
     count-cons (λ q. q == k) queue (queues_from n (at + 2) bytes) ∙ ap (λ m. one (queue == k) + m) rest ∙ sym (next-count queue acts has k)
 
--- an order that the bytes spell is the one that is read, and each of its queues has a further act
+-- an order that the bytes spell is the one that is read, and each named queue has another act
 pub record IsRead (order : List ℕ) (at : ℕ) (bytes : List ℕ) (acts : List Act) : Type 0 where
   pub same : queues_from (length order) at bytes ≡ order
   pub passed : first_holding (order_rows (length order) bytes at acts) ≡ None
@@ -109,7 +109,7 @@ is_read (q ∷ order) at bytes acts after h all e =
     less : (k : ℕ) → count_by (λ x. x == k) (q ∷ order) ≡ count_by (is_of k) acts → count_by (is_of k) acts ≡ one (q == k) + count_by (is_of k) (rest_of q acts) → count_by (λ x. x == k) order ≡ count_by (is_of k) (rest_of q acts)
     less k named left = omega (arith, named, left, count-cons (λ x. x == k) q order)
 
--- the queues from an offset on are spelled there
+-- the bytes from an offset on spell these queues
 pub queues_spelled : (n at : ℕ) (bytes : List ℕ) → at + 2 * n ≤ length bytes → ((i : ℕ) → slice_index bytes i < 256) → flat_map (little_bytes 2) (queues_from n at bytes) ++ drop (at + 2 * n) bytes ≡ drop at bytes
 queues_spelled zero at bytes h fits = let start : at + 2 * 0 ≡ at = omega arith in rw start refl
 queues_spelled (suc n) at bytes h fits =

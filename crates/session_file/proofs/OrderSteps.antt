@@ -1,4 +1,4 @@
--- The queues of an order that are read one after the other.
+-- The queues of an order, read one after another.
 use Rattle.std.proofs.Common.{◌≡◌, ℕ, ◌+◌, ◌-◌, ◌*◌, ◌<◌, ◌≤◌, List, [], ◌∷◌, ◌++◌, length, None, Some, refl, sym, ap, ◌∙◌, arith}
 use Rattle.std.proofs.lemmas.List.{append-nil, length-set}
 use Rattle.std.specs.Prelude.{slice_index, slice_set, count_by}
@@ -13,7 +13,7 @@ use Rattle.session_file.specs.Orders.{AreCounts, queues_from, order_rows}
 use Rattle.session_file.proofs.OrderPlaces.{left_after, left_after-more, left_after-all, queues_from-more, order_rows-more, order_rows-broken, order_rows-all}
 use Rattle.session_file.proofs.OrderCounts.{counts-less, no_more}
 
--- so many queues were read, and each queue has so many acts left
+-- the queues read so far, and the number of acts that each queue has left
 pub record SoFar (i at : ℕ) (bytes : List ℕ) (acts : List Act) (queues left : List ℕ) : Type 0 where
   pub read : queues ++ queues_from (length acts - i) (at + 2 * i) bytes ≡ queues_from (length acts) at bytes
   pub rows : first_holding (order_rows (length acts - i) bytes (at + 2 * i) (left_after i at bytes acts)) ≡ first_holding (order_rows (length acts) bytes at acts)

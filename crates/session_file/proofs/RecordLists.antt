@@ -1,4 +1,4 @@
--- All records of a session: what stands in their bytes, and when no rule of theirs is broken.
+-- All records of a session: what their bytes are, and when they break no rule.
 use Rattle.std.proofs.Common.{◌≡◌, ℕ, zero, suc, ◌+◌, ◌^◌, ◌<◌, ◌≤◌, List, [], ◌∷◌, ◌++◌, length, drop, None, refl, sym, ap, ◌∙◌, arith}
 use Rattle.std.proofs.lemmas.List.{append_assoc, length-drop, length-take-le}
 use Rattle.std.specs.Prelude.{slice_index}
@@ -16,7 +16,7 @@ use Rattle.session_file.proofs.RowSplits.{first_holding-parts}
 use Rattle.session_file.proofs.RecordPlaces.{Stands, record_bytes-act_at, act_at-record_bytes}
 use Rattle.session_file.proofs.RecordRows.{Passes, passes-record, record-passes}
 
--- so many records from an offset on are those of acts of a drive
+-- the records from an offset on are those of a drive's acts
 pub record AreRecords (g : GeometryFields) (bytes : List ℕ) (n at before_sent before_asked : ℕ) : Type 0 where
   pub spelled : flat_map record_bytes (acts_from n at bytes) ++ drop (end_from n at bytes) bytes ≡ drop at bytes
   pub acts : AllByRecursion (IsAct g) (acts_from n at bytes)
@@ -37,7 +37,7 @@ is_act g bytes at sent asked p =
 pub payload_len : (g : GeometryFields) (bytes : List ℕ) (at sent asked : ℕ) → Passes g bytes at sent asked → length (act_at at bytes).payload ≡ length_at at bytes
 payload_len g bytes at sent asked p = (is_act g bytes at sent asked p).payload ∙ sym p.len
 
--- where no rule of them is broken
+-- if they break no rule, they are
 pub are_records : (n : ℕ) (g : GeometryFields) (bytes : List ℕ) (at sent asked : ℕ) → ((i : ℕ) → slice_index bytes i < 256) → at ≤ length bytes → sent ≤ 2 ^ 27 → asked ≤ 2 ^ 27 → first_holding (records_rows n g bytes at sent asked) ≡ None → AreRecords g bytes n at sent asked
 unfolding records_rows
 are_records zero g bytes at sent asked fits within few_sent few_asked e = record {
@@ -66,7 +66,7 @@ are_records (suc n) g bytes at sent asked fits within few_sent few_asked e =
       within = rest.within;
     }
 
--- the records of acts stand from an offset on, and no rule of theirs is broken
+-- the records of these acts follow from an offset on, and break no rule
 pub record Follow (g : GeometryFields) (bytes : List ℕ) (acts : List Act) (at before_sent before_asked : ℕ) (after : List ℕ) : Type 0 where
   pub same : acts_from (length acts) at bytes ≡ acts
   pub rest : drop (end_from (length acts) at bytes) bytes ≡ after

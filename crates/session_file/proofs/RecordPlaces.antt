@@ -1,4 +1,4 @@
--- The bytes of a record and the act that stands in them.
+-- The bytes of a record and the act in them.
 use Rattle.std.proofs.Common.{◌≡◌, ℕ, ◌+◌, ◌^◌, ◌<◌, ◌≤◌, List, [], ◌∷◌, ◌++◌, length, take, drop, refl, sym, ap, ◌∙◌, arith}
 use Rattle.std.proofs.lemmas.List.{append_assoc, take-append-drop, take_at, drop_at, drop-drop, length-drop, length-take-le, length-append}
 use Rattle.std.specs.Prelude.{slice_index}
@@ -10,7 +10,7 @@ use Rattle.zone_model.specs.declared.act.Act.{Act}
 use Rattle.zone_model.specs.Sessions.{record_bytes}
 use Rattle.session_file.specs.Places.{length_at, act_at, next_at}
 
--- five parts and what follows them
+-- five parts, and what follows them
 pub five_parts : (a b c d e rest : List ℕ) → ((((a ++ b) ++ c) ++ d) ++ e) ++ rest ≡ a ++ (b ++ (c ++ (d ++ (e ++ rest))))
 five_parts a b c d e rest = simp append_assoc
 
@@ -18,7 +18,7 @@ five_parts a b c d e rest = simp append_assoc
 pub joined : (place width next : ℕ) (bytes front back : List ℕ) → place + width ≡ next → front ≡ take width (drop place bytes) → back ≡ drop next bytes → front ++ back ≡ drop place bytes
 joined place width next bytes front back n e h = rw (e, h, ← n, ← drop-drop width place bytes) (take-append-drop width (drop place bytes))
 
--- the record at an offset is that of its act
+-- the record at an offset is the one for its act
 pub record_bytes-act_at : (at : ℕ) (bytes : List ℕ) → next_at at bytes ≤ length bytes → field (at + 2) 2 bytes ≡ 0 → ((i : ℕ) → slice_index bytes i < 256) → record_bytes (act_at at bytes) ++ drop (next_at at bytes) bytes ≡ drop at bytes
 unfolding act_at length_at
 record_bytes-act_at at bytes within zeros fits =
@@ -35,7 +35,7 @@ record_bytes-act_at at bytes within zeros fits =
     (joined (at + 8) 64 (at + 72) bytes _ _ (omega arith) refl
     (joined (at + 72) n (next_at at bytes) bytes _ _ refl refl refl))))
 
--- the record of an act, in its parts
+-- the parts of an act's record
 parts_of : Act → List ℕ → List ℕ
 parts_of a rest = little_bytes 2 a.queue ++ ((0 ∷ 0 ∷ []) ++ (little_bytes 4 (length a.payload) ++ (a.sqe.bytes ++ (a.payload ++ rest))))
 
@@ -43,7 +43,7 @@ record_bytes-parts : (a : Act) (rest : List ℕ) → record_bytes a ++ rest ≡ 
 unfolding parts_of
 record_bytes-parts a rest = five_parts (little_bytes 2 a.queue) (0 ∷ 0 ∷ []) (little_bytes 4 (length a.payload)) a.sqe.bytes a.payload rest
 
--- what stands at an offset where the record of an act does
+-- the fields at an offset where the record of an act begins
 pub record Stands (at : ℕ) (bytes : List ℕ) (a : Act) (after : List ℕ) : Type 0 where
   pub act : act_at at bytes ≡ a
   pub len : length_at at bytes ≡ length a.payload

@@ -1,4 +1,4 @@
--- The rules of one record and the facts that they stand for.
+-- The rules of one record and the facts that they state.
 use Rattle.std.proofs.Common.{◌≡◌, ℕ, ◌+◌, ◌^◌, ◌<◌, ◌≤◌, List, length, None, arith}
 use Rattle.std.proofs.lemmas.Bool.Decides.{nat_tests}
 use Rattle.zns_types.specs.declared.fields.GeometryFields.{GeometryFields}
@@ -18,7 +18,7 @@ pub record Passes (g : GeometryFields) (bytes : List ℕ) (at sent asked : ℕ) 
   pub few_asked : asked + reply_len g (command_of (act_at at bytes)) ≤ 2 ^ 27
   pub within : next_at at bytes ≤ length bytes
 
--- where no rule is broken
+-- if no rule is broken, the facts hold
 pub passes-record : (g : GeometryFields) (bytes : List ℕ) (at sent asked : ℕ) → first_holding (record_rows g bytes at sent asked) ≡ None → Passes g bytes at sent asked
 unfolding record_rows
 passes-record g bytes at sent asked e =
@@ -32,7 +32,7 @@ passes-record g bytes at sent asked e =
       within = grind (arith, nat_tests, beyond);
     }
 
--- and the other way round
+-- and conversely
 pub record-passes : (g : GeometryFields) (bytes : List ℕ) (at sent asked : ℕ) → Passes g bytes at sent asked → first_holding (record_rows g bytes at sent asked) ≡ None
 unfolding record_rows
 record-passes g bytes at sent asked p =

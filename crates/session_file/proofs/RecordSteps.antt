@@ -1,4 +1,4 @@
--- One record more of those that are read one after the other.
+-- One more record, as records are read one after another.
 use Rattle.std.proofs.Common.{◌≡◌, ℕ, suc, ◌+◌, ◌-◌, ◌<◌, ◌≤◌, List, [], ◌∷◌, ◌++◌, None, Some, refl, sym, ap, ◌∙◌, arith}
 use Rattle.std.proofs.lemmas.List.{append_assoc}
 use Rattle.zns_types.specs.declared.fields.GeometryFields.{GeometryFields}
@@ -22,7 +22,7 @@ acts_from-more i n at bytes acts whole h e =
 pub end_from-more : (i n at : ℕ) (bytes : List ℕ) (whole : ℕ) → i < n → end_from (n - i) at bytes ≡ whole → end_from (n - (i + 1)) (next_at at bytes) bytes ≡ whole
 end_from-more i n at bytes whole h e = ap (λ k. end_from k at bytes) (sym (left i n h)) ∙ e
 
--- the rules of a record and those of the records after it
+-- the rules of a record, and those of the records after it
 opened : (i n : ℕ) (g : GeometryFields) (bytes : List ℕ) (at sent asked : ℕ) → i < n → records_rows (n - i) g bytes at sent asked ≡ record_rows g bytes at sent asked ++ records_rows (n - (i + 1)) g bytes (next_at at bytes) (sent + length_at at bytes) (asked + reply_len g (command_of (act_at at bytes)))
 unfolding records_rows
 opened i n g bytes at sent asked h = ap (λ k. records_rows k g bytes at sent asked) (left i n h)
@@ -36,7 +36,7 @@ records_rows-broken i n g bytes at sent asked e h b =
     ap first_holding (opened i n g bytes at sent asked h)
     ∙ first_holding-append_some (record_rows g bytes at sent asked) (records_rows (n - (i + 1)) g bytes (next_at at bytes) (sent + length_at at bytes) (asked + reply_len g (command_of (act_at at bytes)))) e b
 
--- and none that is left
+-- there are no rules when no record is left
 pub records_rows-all : (i n : ℕ) (g : GeometryFields) (bytes : List ℕ) (at sent asked : ℕ) → n ≤ i → records_rows (n - i) g bytes at sent asked ≡ []
 unfolding records_rows
 records_rows-all i n g bytes at sent asked h =

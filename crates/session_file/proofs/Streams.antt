@@ -1,4 +1,4 @@
--- What is read of a source, piece by piece.
+-- What is read from a source, piece by piece.
 use Rattle.std.proofs.Common.{◌≡◌, ℕ, ◌+◌, ◌*◌, ◌^◌, ◌<◌, ◌≤◌, List, [], ◌∷◌, ◌++◌, length, drop, Option, Some, None, refl, sym, ap, subst, ◌∙◌, arith}
 use Rattle.std.proofs.lemmas.List.{append_assoc, append-nil, flat_map_more, length-append}
 use Rattle.std.specs.Prelude.{All, slice_index, Result, Ok, Err, IfOk, OnErr}
@@ -26,36 +26,36 @@ use Rattle.session_file.proofs.RecordRows.{Passes, passes-record}
 use Rattle.session_file.proofs.RecordLists.{is_act, payload_len}
 use Rattle.session_file.proofs.Sizes.{header_size, records_size}
 
--- the bytes that were held are these
+-- nothing was read, and the held bytes stay the same
 pub goes_on-same : (left : Option (List ℕ)) (held after : List ℕ) → held ≡ after → GoesOn left left held after
 goes_on-same left held after same = λ first front came. subst (λ (b : List ℕ). Consumes first left (front ++ b)) same came
 
--- others came before them
+-- other bytes came before the held ones
 pub goes_on-behind : (left now : Option (List ℕ)) (before held after : List ℕ) → GoesOn left now held after → GoesOn left now (before ++ held) (before ++ after)
 goes_on-behind left now before held after more = λ first front came.
     subst (Consumes first now) (append_assoc front before after) (more first (front ++ before) (subst (Consumes first left) (sym (append_assoc front before held)) came))
 
--- it gave some bytes after those that were held
+-- the source gave some bytes, which follow the held ones
 pub goes_on-more : (left now : Option (List ℕ)) (held more after : List ℕ) → Consumes left now more → after ≡ held ++ more → GoesOn left now held after
 goes_on-more left now held more after read is = λ first front came.
     subst (Consumes first now) (append_assoc front held more ∙ ap (λ (b : List ℕ). front ++ b) (sym is)) (Consumes-then first left now (front ++ held) more came read)
 
--- one went on after the other
+-- two steps of reading, one after another
 pub goes_on-then : (left mid now : Option (List ℕ)) (held between after : List ℕ) → GoesOn left mid held between → GoesOn mid now between after → GoesOn left now held after
 goes_on-then left mid now held between after one two = λ first front came. two first front (one first front came)
 
--- nothing was read of a source at first
+-- at first nothing was read from a source
 nothing_read : (left : Option (List ℕ)) → Consumes left left []
 nothing_read None = tt
 nothing_read (Some bytes) = refl
 
--- the source ended with it
+-- the source ended after these bytes
 pub read_all_of : (left now : Option (List ℕ)) (bytes : List ℕ) → Consumes left now bytes → IsAtEnd now → ReadsAll left now bytes
 read_all_of None now bytes read end = tt
 read_all_of (Some told) None bytes read end = absurd read
 read_all_of (Some told) (Some rest) bytes read end = (sym (read ∙ ap (λ (b : List ℕ). bytes ++ b) end ∙ append-nil bytes), ap Some end)
 
--- what came first
+-- the first bytes that came
 pub came_first : (left now : Option (List ℕ)) (held after : List ℕ) → held ≡ [] → GoesOn left now held after → Consumes left now after
 came_first left now held after none more = more left [] (subst (Consumes left left) (sym none) (nothing_read left))
 
@@ -80,12 +80,12 @@ next_record g bytes before after a passed is sent asked few_sent few_asked =
       few_asked = few_asked;
     }
 
--- a sum over one act more
+-- a sum over one more act
 pub sum_of-push : (f : Act → ℕ) (acts : List Act) (a : Act) → sum_of f (acts ++ a ∷ []) ≡ sum_of f acts + f a
 sum_of-push f [] a = omega arith
 sum_of-push f (b ∷ acts) a = omega (arith, sum_of-push f acts a)
 
--- one record more
+-- one more record
 pub one_record_more : (left mid now : Option (List ℕ)) (first held after : List ℕ) (acts : List Act) (a : Act) → GoesOn left mid first (flat_map record_bytes acts ++ held) → GoesOn mid now held (record_bytes a ++ after) → GoesOn left now first (flat_map record_bytes (acts ++ a ∷ []) ++ after)
 one_record_more left mid now first held after acts a so_far more =
     let all : flat_map record_bytes acts ++ (record_bytes a ++ after) ≡ flat_map record_bytes (acts ++ a ∷ []) ++ after =
@@ -104,13 +104,13 @@ stops_after left mid now first held after g acts so_far more all few sent short 
       few = omega (arith, length-append (flat_map record_bytes acts) after, records_size g acts all);
     }
 
--- or at once
+-- reading ends at once
 pub stops_here : (left : Option (List ℕ)) (held : List ℕ) → length held ≤ 2 ^ 28 + 65536 → StopsWithin left left held
 stops_here left held short = record { after = held; goes_on = goes_on-same left held held refl; few = omega arith }
 
 -- ---- what a source gave
 
--- all records, and what came after them
+-- all records were read, and then these bytes
 pub session_so_far : (left now : Option (List ℕ)) (first after : List ℕ) (s : Recorded) (n : ℕ) → GoesOn left now first (flat_map record_bytes s.acts ++ after) → length s.acts ≡ n
     → (source : Option (List ℕ)) → Consumes source left (header_bytes s.geometry n ++ first) → Consumes source now (spelling s ++ after)
 unfolding spelling
@@ -126,7 +126,7 @@ unfolding spelling
 session_size s all =
     length-append (header_bytes s.geometry (length s.acts)) (flat_map record_bytes s.acts) ∙ omega (arith, header_size s.geometry (length s.acts), records_size s.geometry s.acts all)
 
--- records before one that breaks a rule, and what came after them
+-- the records before one that breaks a rule, and then these bytes
 pub bytes_so_far : (left now : Option (List ℕ)) (first after bytes : List ℕ) (g : GeometryFields) (n : ℕ) (acts : List Act) → GoesOn left now first (flat_map record_bytes acts ++ after) → bytes ≡ header_bytes g n ++ (flat_map record_bytes acts ++ after)
     → (source : Option (List ℕ)) → Consumes source left (header_bytes g n ++ first) → Consumes source now bytes
 bytes_so_far left now first after bytes g n acts one is = λ source came.
@@ -136,7 +136,7 @@ pub few_so_far : (after bytes : List ℕ) (g : GeometryFields) (n : ℕ) (acts :
 few_so_far after bytes g n acts is all few sent short =
     omega (arith, ap length is, length-append (header_bytes g n) (flat_map record_bytes acts ++ after), header_size g n, length-append (flat_map record_bytes acts) after, records_size g acts all)
 
--- a header that was taken, and what came after it
+-- a header was taken, and then these bytes came
 pub header_taken : (rest held after : List ℕ) (g : GeometryFields) (n : ℕ) → rest ≡ held → ((i : ℕ) → slice_index rest i < 256) → first_holding (header_rows rest) ≡ None → g ≡ geometry_in rest → n ≡ count_in rest → after ≡ drop 64 held → held ≡ header_bytes g n ++ after
 header_taken rest held after g n same fits passed fields count skipped =
     sym same ∙ header_front rest fits passed
@@ -144,11 +144,11 @@ header_taken rest held after g n same fits passed fields count skipped =
     ∙ ap (λ (x : GeometryFields). header_bytes x (count_in rest) ++ after) (sym fields)
     ∙ ap (λ (k : ℕ). header_bytes g k ++ after) (sym count)
 
--- how far a source was read from which so many bytes came
+-- how far a source was read, by the bytes that came
 pub read_front : (left now : Option (List ℕ)) (bytes : List ℕ) → Consumes left now bytes → length bytes ≤ 2 ^ 29 → ReadsFrontUpTo left now (2 ^ 29)
 read_front left now bytes read few = (length bytes, few, ReadsFront-consumed left now bytes (length bytes) read refl)
 
--- what it began with, with the header
+-- what the source began with, including the header
 pub begins_all : (left mid now : Option (List ℕ)) (header held : List ℕ) (r : Result First FeedErr) → Consumes left mid (header ++ held) → IfOk r (BeginsAfter mid now header held) → IfOk r (Begins left now)
 begins_all left mid now header held (Ok (Session b)) came gave = record { session = gave.session; long = gave.long; few = gave.few; read = gave.read left came }
 begins_all left mid now header held (Ok (Other bytes)) came gave = (gave.read left came, gave.few)
@@ -161,7 +161,7 @@ stops_all left mid now header held (Err e) came size stops =
 
 -- ---- what comes after a session
 
--- a piece more came after it
+-- one more piece came after it
 pub began_more : (left mid now : Option (List ℕ)) (b : Begun) (after : List ℕ) → BeginsWith left mid b → GoesOn mid now b.rest after → Consumes left now (spelling b.session ++ after)
 began_more left mid now b after began more = more left (spelling b.session) began.read
 
@@ -171,12 +171,12 @@ ended_there left mid now b after began more none end =
     let bytes : spelling b.session ++ after ≡ spelling b.session = ap (λ (rest : List ℕ). spelling b.session ++ rest) none ∙ append-nil (spelling b.session) in
     read_all_of left now (spelling b.session) (subst (Consumes left now) bytes (began_more left mid now b after began more)) end
 
--- how many bytes these are
+-- the number of bytes is within the limit
 pub began_few : (b : Begun) (after : List ℕ) → IsSession b.session → length after ≤ 2 ^ 28 + 131072 → length (spelling b.session ++ after) ≤ 2 ^ 29
 began_few b after is short =
     omega (arith, length-append (spelling b.session) after, session_size b.session is.acts, is.count, is.sent)
 
--- how far a source was read then
+-- how far the source was read then
 pub began_front : (left mid now : Option (List ℕ)) (b : Begun) (after : List ℕ) → BeginsWith left mid b → GoesOn mid now b.rest after → length after ≤ 2 ^ 28 + 131072 → ReadsFrontUpTo left now (2 ^ 29)
 began_front left mid now b after began more short =
     read_front left now (spelling b.session ++ after) (began_more left mid now b after began more) (began_few b after began.session short)

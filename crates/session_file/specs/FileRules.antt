@@ -1,4 +1,4 @@
--- The rules of a session's bytes, in their order: each with what is said where it is broken.
+-- The rules of a session's bytes in order, each with the error that is given if it is broken.
 use Rattle.std.specs.Prelude.{ℕ, zero, suc, ◌+◌, ◌^◌, Bool, not, ◌==◌, nat_lt, nat_le, if◌then◌else◌, List, [], ◌∷◌, ◌++◌, map, length, take, codes}
 use Rattle.std.specs.Str.{bytes_eq}
 use Rattle.zns_types.specs.declared.fields.GeometryFields.{GeometryFields}
@@ -28,7 +28,7 @@ large w number b = when b (Large w number)
 
 -- ---- the header
 
--- where a number of the drive stands in the header
+-- the offset in the header of a number of the drive
 abbrev pub place_of : Field → ℕ
 place_of the_field.BlockExp = 8
 place_of the_field.Mdts = 9
@@ -42,7 +42,7 @@ place_of the_field.Window = 46
 place_of the_field.Queues = 48
 place_of the_field.Depth = 50
 
--- the four numbers that have a limit of their own
+-- the error for a number over its limit: four numbers have a limit of their own
 abbrev pub over_limit : Field → ℕ → FileErr
 over_limit the_field.Zones number = Large which.Zones number
 over_limit the_field.ZoneSize number = Large which.ZoneSize number
@@ -50,7 +50,7 @@ over_limit the_field.Queues number = Large which.Queues number
 over_limit the_field.Depth number = Large which.Depth number
 over_limit other number = Bad reason.Header (place_of other)
 
--- what is said of a header with numbers that break a rule on drives
+-- the error for a header whose numbers break a rule on drives
 abbrev pub in_header : GeomErr → FileErr
 in_header e = if e.large then over_limit e.field e.number else Bad reason.Header (place_of e.field)
 
@@ -58,7 +58,7 @@ in_header e = if e.large then over_limit e.field e.number else Bad reason.Header
 abbrev pub on_header : Row GeomErr → Row FileErr
 on_header r = when r.holds (in_header r.answer)
 
--- 64 bytes that begin as a session does
+-- there are 64 bytes, and they begin as a session does
 unfoldable pub start_rows : List ℕ → List (Row FileErr)
 start_rows bytes =
     bad reason.Short (length bytes) (nat_lt (length bytes) 64)
@@ -77,7 +77,7 @@ header_rows bytes = start_rows bytes ++ (map on_header (rules (geometry_in bytes
 
 -- ---- the records
 
--- the record at an offset, where the records before it send and ask for so many bytes
+-- the rules of the record at an offset, after records that send `sent` bytes and ask for `asked`
 unfoldable pub record_rows : GeometryFields → List ℕ → ℕ → ℕ → ℕ → List (Row FileErr)
 record_rows g bytes at sent asked =
     bad reason.Short (length bytes) (nat_lt (length bytes) (at + 72))
@@ -89,7 +89,7 @@ record_rows g bytes at sent asked =
     ∷ bad reason.Short (length bytes) (nat_lt (length bytes) (next_at at bytes))
     ∷ []
 
--- so many records from an offset on
+-- the rules of a number of records, from an offset on
 unfoldable pub records_rows : ℕ → GeometryFields → List ℕ → ℕ → ℕ → ℕ → List (Row FileErr)
 records_rows zero g bytes at sent asked = []
 records_rows (suc n) g bytes at sent asked =
@@ -98,10 +98,10 @@ records_rows (suc n) g bytes at sent asked =
 
 -- ---- all of it
 
--- bytes that begin with a session
+-- the bytes begin with a session
 unfoldable pub front_rows : List ℕ → List (Row FileErr)
 front_rows bytes = header_rows bytes ++ records_rows (count_in bytes) (geometry_in bytes) bytes 64 0 0
 
--- bytes that are a session, and nothing after it
+-- the bytes are a session and nothing more
 unfoldable pub file_rows : List ℕ → List (Row FileErr)
 file_rows bytes = front_rows bytes ++ bad reason.Trailing (session_end bytes) (nat_lt (session_end bytes) (length bytes)) ∷ []

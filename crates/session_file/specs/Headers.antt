@@ -11,7 +11,7 @@ start_bytes g = codes "ZNSQ0001" ++ (g.block_exp ∷ g.mdts ∷ g.zasl ∷ g.fla
 abbrev pub zones_bytes : GeometryFields → List ℕ
 zones_bytes g = little_bytes 4 g.zones ++ little_bytes 8 g.zone_size ++ little_bytes 8 g.capacity
 
--- how many zones may be active, opened, and have a random write area
+-- how many zones may be active, be open, and have a random write area
 abbrev pub limits_bytes : GeometryFields → List ℕ
 limits_bytes g = little_bytes 4 g.active_limit ++ little_bytes 4 g.open_limit ++ little_bytes 4 g.windows
 

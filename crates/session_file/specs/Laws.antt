@@ -6,7 +6,7 @@ use Rattle.zone_model.specs.Sessions.{Recorded, IsSession, IsOrder, spells, spel
 abbrev pub SpellsOne : Type 0
 SpellsOne = (bytes : List ℕ) (s other : Recorded) → IsSession s → IsSession other → spells s bytes → spells other bytes → s ≡ other
 
--- what bytes begin with, and what comes after it, are the same
+-- the two sessions are the same, and so is what comes after them
 pub record AreSame (s other : Recorded) (after rest : List ℕ) : Type 0 where
   pub same_session : s ≡ other
   pub same_after : after ≡ rest

@@ -10,16 +10,16 @@ use Rattle.session_file.specs.declared.file_err.FileErr.{FileErr}
 use Rattle.session_file.specs.FileRules.{bad}
 use Rattle.session_file.specs.Faults.{IsFirstOf}
 
--- the numbers say how many acts each queue has
+-- the counts say how many acts each queue has
 abbrev pub AreCounts : List Act → List ℕ → Type 0
 AreCounts acts counts = (queue : ℕ) → queue < 17 → slice_index counts queue ≡ count_by (is_of queue) acts
 
--- so many queues from an offset on
+-- a number of queues, read from an offset on
 abbrev pub queues_from : ℕ → ℕ → List ℕ → List ℕ
 queues_from zero at bytes = []
 queues_from (suc n) at bytes = field at 2 bytes ∷ queues_from n (at + 2) bytes
 
--- Each queue that is named has an act that was not named yet: the next one of that queue.
+-- Each named queue has an act that wasn't named yet: the next one of that queue.
 unfoldable pub order_rows : ℕ → List ℕ → ℕ → List Act → List (Row FileErr)
 order_rows zero bytes at acts = []
 order_rows (suc n) bytes at acts = bad reason.ResultOrder at (not (is_some (next_of (field at 2 bytes) acts))) ∷ order_rows n bytes (at + 2) (rest_of (field at 2 bytes) acts)
@@ -36,8 +36,8 @@ order_front_rows bytes from n =
 unfoldable pub result_rows : List ℕ → ℕ → List Act → List (Row FileErr)
 result_rows bytes from acts = order_front_rows bytes from (length acts) ++ order_rows (length acts) bytes (from + 12) acts
 
--- The error is that of the first rule that is broken, wherever these bytes stand behind so many others, with more behind
--- them unless they are too few for the order.
+-- The error is that of the first broken rule, whichever `before` bytes come first and whatever comes after. Only if the bytes are too few
+-- for the order does nothing come after them.
 abbrev pub IsFirstAfter : ℕ → List ℕ → List Act → FileErr → Type 0
 IsFirstAfter before bytes acts e = (front more : List ℕ) → length front ≡ before → (length bytes < 12 + 2 * length acts → more ≡ [])
     → IsFirstOf (result_rows (front ++ (bytes ++ more)) before acts) e

@@ -1,12 +1,12 @@
--- What stands at the places of a session's bytes: 64 bytes of header, then one record for each act. A record has the
--- queue in two bytes, two zero bytes, the length of the host data in four, an entry of 64, and the host data.
+-- The layout of a session's bytes: a header of 64 bytes, then one record for each act. A record has the queue in two bytes, two zero bytes,
+-- the length of the host data in four, an entry of 64, and the host data.
 use Rattle.std.specs.Prelude.{ℕ, zero, suc, ◌+◌, List, [], ◌∷◌, take, drop, slice_index}
 use Rattle.zns_types.specs.declared.fields.GeometryFields.{GeometryFields}
 use Rattle.zns_types.specs.Fields.{field}
 use Rattle.zone_model.specs.declared.act.Act.{Act}
 use Rattle.zone_model.specs.Sessions.{Recorded}
 
--- the numbers of the drive, which the header gives
+-- the numbers of the drive, from the header
 unfoldable pub geometry_in : List ℕ → GeometryFields
 geometry_in bytes = record {
   block_exp = slice_index bytes 8;
@@ -25,7 +25,7 @@ geometry_in bytes = record {
   depth = field 50 2 bytes;
 }
 
--- the number of acts, which the header gives
+-- the number of acts, from the header
 unfoldable pub count_in : List ℕ → ℕ
 count_in bytes = field 52 4 bytes
 
@@ -45,12 +45,12 @@ act_at at bytes = record {
 abbrev pub next_at : ℕ → List ℕ → ℕ
 next_at at bytes = at + 72 + length_at at bytes
 
--- the acts of so many records from an offset on
+-- the acts of a number of records, from an offset on
 abbrev pub acts_from : ℕ → ℕ → List ℕ → List Act
 acts_from zero at bytes = []
 acts_from (suc n) at bytes = act_at at bytes ∷ acts_from n (next_at at bytes) bytes
 
--- the offset after so many records from an offset on
+-- the offset after a number of records, from an offset on
 abbrev pub end_from : ℕ → ℕ → List ℕ → ℕ
 end_from zero at bytes = at
 end_from (suc n) at bytes = end_from n (next_at at bytes) bytes
@@ -59,6 +59,6 @@ end_from (suc n) at bytes = end_from n (next_at at bytes) bytes
 abbrev pub session_in : List ℕ → Recorded
 session_in bytes = record { geometry = geometry_in bytes; acts = acts_from (count_in bytes) 64 bytes }
 
--- the offset after it
+-- the offset after that session
 abbrev pub session_end : List ℕ → ℕ
 session_end bytes = end_from (count_in bytes) 64 bytes

@@ -1,4 +1,4 @@
--- How the reasons are said.
+-- The texts of the reasons.
 use Rattle.std.specs.Prelude.{ℕ, List, codes}
 use Rattle.session_file.specs.declared.file_err.Reason.{Reason}
 use Rattle.session_file.specs.declared.file_err.Reason.TheVariants as reason

@@ -1,14 +1,14 @@
--- What a result file is made of, by the queues of the acts and the replies to them.
+-- The parts of a result file, by the queues of the acts and the replies to them.
 use Rattle.std.specs.Prelude.{ℕ, List, ◌++◌, ◌^◌, ◌<◌, length}
 use Rattle.std.specs.List.{flat_map}
 use Rattle.zone_model.specs.declared.reply.Reply.{Reply}
 use Rattle.zone_model.specs.Sessions.{order_bytes, reply_part}
 
--- the bytes of a reply: its entries and what it read, each with its number before it
+-- the bytes of a reply: its entries and the bytes that it read, each after their number
 abbrev pub part_of : Reply → List ℕ
 part_of r = reply_part r.entries.items r.read
 
--- the number of bytes that a reply read fits its four bytes
+-- the number of bytes read fits in four bytes
 abbrev pub IsShort : Reply → Type 0
 IsShort r = length r.read < 2 ^ 32
 

@@ -1,4 +1,4 @@
--- What is read of a source, piece by piece.
+-- What is read from a source, piece by piece.
 use Rattle.std.specs.Prelude.{◌≡◌, ℕ, ◌+◌, ◌^◌, ◌≤◌, List, [], ◌++◌, length, Option, Some, None}
 use Rattle.std.specs.Io.KnownBytes.{Consumes}
 use Rattle.zns_types.specs.declared.fields.GeometryFields.{GeometryFields}
@@ -14,23 +14,23 @@ use Rattle.session_file.specs.declared.given.First.TheVariants.{Session, Other}
 use Rattle.session_file.specs.declared.given.Given.{Given}
 use Rattle.session_file.specs.declared.given.Given.TheVariants.{Whole, Front}
 
--- Whatever was read of the source before the bytes that were held: what was read of it now are those bytes, and in
--- place of the held ones these.
+-- If some bytes and then `held` had been read from the source before, then those bytes and the new ones in place of `held` have been read
+-- now.
 abbrev pub GoesOn : Option (List ℕ) → Option (List ℕ) → List ℕ → List ℕ → Type 0
 GoesOn left now held after = (first : Option (List ℕ)) (front : List ℕ) → Consumes first left (front ++ held) → Consumes first now (front ++ after)
 
--- it went on, and not past the longest input
+-- reading went on, but not past the longest input
 pub record StopsWithin (left now : Option (List ℕ)) (held : List ℕ) : Type 0 where
   pub after : List ℕ
   pub goes_on : GoesOn left now held after
   pub few : length after + 64 ≤ 2 ^ 29
 
--- the bytes of a record, where one was taken
+-- the bytes of a record, if one was taken
 abbrev pub taken_bytes : Option Taken → List ℕ
 taken_bytes None = []
 taken_bytes (Some t) = record_bytes t.act
 
--- the act of a record is one of the drive, and what it moves is counted
+-- the record's act is one of the drive, and the bytes that it moves are counted
 pub record IsNext (g : GeometryFields) (before : Progress) (t : Taken) : Type 0 where
   pub act : IsAct g t.act
   pub sent : t.after.sent ≡ before.sent + length t.act.payload
@@ -38,36 +38,36 @@ pub record IsNext (g : GeometryFields) (before : Progress) (t : Taken) : Type 0 
   pub few_sent : t.after.sent ≤ 2 ^ 27
   pub few_asked : t.after.asked ≤ 2 ^ 27
 
--- With a front that was taken before, and what was held, these bytes were read: those of a session, and then the rest.
+-- The front taken before and the bytes read are those of a session, and then the rest.
 pub record HasBegun (left now : Option (List ℕ)) (front held : List ℕ) (b : Begun) : Type 0 where
   pub session : IsSession b.session
   pub long : b.len ≡ length (spelling b.session)
   pub few : length b.rest ≤ 2 ^ 28 + 65536
   pub read : (first : Option (List ℕ)) → Consumes first left (front ++ held) → Consumes first now (spelling b.session ++ b.rest)
 
--- with a front that was taken before, and what was held, these bytes were read so far
+-- the front taken before and what was read make up these bytes so far
 pub record HasRead (left now : Option (List ℕ)) (front held bytes : List ℕ) : Type 0 where
   pub few : length bytes ≤ 2 ^ 29
   pub read : (first : Option (List ℕ)) → Consumes first left (front ++ held) → Consumes first now bytes
 
--- what a source began with, by a front that was taken
+-- what a source began with, once its front was taken
 abbrev pub BeginsAfter : Option (List ℕ) → Option (List ℕ) → List ℕ → List ℕ → First → Type 0
 BeginsAfter left now front held (Session b) = HasBegun left now front held b
 BeginsAfter left now front held (Other bytes) = HasRead left now front held bytes
 
--- a source began with a session, and then the rest was read
+-- the source began with a session, and then the rest was read
 pub record BeginsWith (left now : Option (List ℕ)) (b : Begun) : Type 0 where
   pub session : IsSession b.session
   pub long : b.len ≡ length (spelling b.session)
   pub few : length b.rest ≤ 2 ^ 28 + 65536
   pub read : Consumes left now (spelling b.session ++ b.rest)
 
--- What a source began with: a session; or these bytes so far.
+-- What the source began with: a session, or else the bytes so far.
 abbrev pub Begins : Option (List ℕ) → Option (List ℕ) → First → Type 0
 Begins left now (Session b) = BeginsWith left now b
 Begins left now (Other bytes) = Consumes left now bytes × (length bytes ≤ 2 ^ 29)
 
--- What a source gave: a session, and nothing after it; or these bytes so far.
+-- What the source gave: a session and nothing after it, or else the bytes so far.
 abbrev pub Gives : Option (List ℕ) → Option (List ℕ) → Given → Type 0
 Gives left now (Whole s) = IsSession s × ReadsAll left now (spelling s)
 Gives left now (Front bytes) = Consumes left now bytes × (length bytes ≤ 2 ^ 29)

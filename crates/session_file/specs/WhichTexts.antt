@@ -1,4 +1,4 @@
--- How what is too large is said.
+-- The texts for what is too large.
 use Rattle.std.specs.Prelude.{ℕ, List, codes}
 use Rattle.session_file.specs.declared.file_err.Which.{Which}
 use Rattle.session_file.specs.declared.file_err.Which.TheVariants as which

@@ -8,10 +8,10 @@ use std::alloc::Global;
 use std::marker::Model;
 use zns_io::{NoMemory, Source};
 
-/// How many bytes are read at once.
+/// The most bytes that one read asks for.
 pub const PIECE: usize = 65536;
 
-// The same bytes, whose numbers are known to be bytes.
+// Returns `bytes`; the contract adds that each of them is less than 256.
 fn known(bytes: &[u8]) -> &[u8]
     ensures same { result.now ≡ bytes.now }
     ensures bytes { (i : ℕ) → slice_index bytes.now i < 256 }
@@ -19,7 +19,7 @@ fn known(bytes: &[u8]) -> &[u8]
     bytes
 }
 
-/// Bytes that came from a source and weren't taken yet.
+/// Bytes that were read from a source and not taken yet.
 #[derive(Drop)]
 pub struct Feed {
     bytes: Vec<u8>,
@@ -37,7 +37,7 @@ impl Model for Feed {
 }
 
 impl Feed {
-    /// Nothing came yet.
+    /// An empty feed.
     pub fn new(alloc: Global) -> Feed
         ensures { result ≡ [] }
     {
@@ -47,14 +47,14 @@ impl Feed {
         }
     }
 
-    /// These bytes came.
+    /// A feed that holds `bytes`.
     pub fn from_vec(bytes: Vec<u8>) -> Feed
         ensures { result ≡ bytes.items }
     {
         Feed { bytes, at: 0 }
     }
 
-    /// The bytes.
+    /// The bytes that are held.
     pub fn rest(&self) -> &[u8]
         ensures rest { result.now ≡ self.now }
         ensures bytes { (i : ℕ) → slice_index result.now i < 256 }
@@ -62,7 +62,7 @@ impl Feed {
         known(&self.bytes[self.at..])
     }
 
-    /// Takes so many bytes from the front.
+    /// Takes the first `count` bytes.
     pub fn skip(&mut self, count: usize)
         requires { count ≤ length self.old }
         ensures { self.new ≡ drop count self.old }
@@ -70,7 +70,7 @@ impl Feed {
         self.at += count;
     }
 
-    // Keeps the bytes alone, where others were taken before them.
+    // Drops the bytes that were taken, so that the held ones are at the front.
     fn settle(&mut self, alloc: Global) -> Result<(), NoMemory>
         ensures { self.new ≡ self.old }
     {
@@ -84,7 +84,8 @@ impl Feed {
         Ok(())
     }
 
-    /// Reads a piece more, of at most 65,536 bytes and at most `most`, and says whether some came.
+    /// Reads one more piece, of at most 65,536 bytes and at most `most`. Returns whether any bytes
+    /// came.
     pub fn more<S: Source>(
         &mut self,
         alloc: Global,
@@ -117,8 +118,8 @@ impl Feed {
         }
     }
 
-    /// Reads on until so many bytes are held, or the source ends, and says whether so many are.
-    /// No more than `most` are held then.
+    /// Reads until `least` bytes are held or the source ends. Returns whether `least` bytes are
+    /// held. At most `most` are held then.
     pub fn fill<S: Source>(
         &mut self,
         alloc: Global,

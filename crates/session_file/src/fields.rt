@@ -4,7 +4,7 @@ ghost use Rattle.zns_types.specs.Fields.{field};
 use byteorder::{ByteOrder, LittleEndian};
 use sqe_codec::Sqe;
 
-/// The two bytes from a place on.
+/// The little-endian number in the two bytes at `place`.
 pub fn u16_at(bytes: &[u8], place: usize) -> u16
     requires { place + 2 ≤ length bytes.now }
     ensures { result ≡ field place 2 bytes.now }
@@ -12,7 +12,7 @@ pub fn u16_at(bytes: &[u8], place: usize) -> u16
     LittleEndian::read_u16(&bytes[place..])
 }
 
-/// The four bytes from a place on.
+/// The little-endian number in the four bytes at `place`.
 pub fn u32_at(bytes: &[u8], place: usize) -> u32
     requires { place + 4 ≤ length bytes.now }
     ensures { result ≡ field place 4 bytes.now }
@@ -20,7 +20,7 @@ pub fn u32_at(bytes: &[u8], place: usize) -> u32
     LittleEndian::read_u32(&bytes[place..])
 }
 
-/// The eight bytes from a place on.
+/// The little-endian number in the eight bytes at `place`.
 pub fn u64_at(bytes: &[u8], place: usize) -> u64
     requires { place + 8 ≤ length bytes.now }
     ensures { result ≡ field place 8 bytes.now }
@@ -28,7 +28,7 @@ pub fn u64_at(bytes: &[u8], place: usize) -> u64
     LittleEndian::read_u64(&bytes[place..])
 }
 
-/// The entry from a place on.
+/// The submission queue entry in the 64 bytes at `place`.
 pub fn sqe_at(bytes: &[u8], place: usize) -> Sqe
     requires { place + 64 ≤ length bytes.now }
     ensures { result.bytes ≡ take 64 (drop place bytes.now) }

@@ -11,10 +11,10 @@ pub enum Reason {
     /// The input ends early.
     Short,
 
-    /// It doesn't begin as a session does.
+    /// The input doesn't begin as a session does.
     Magic,
 
-    /// A number of the header makes no drive, or a reserved byte of the header isn't zero.
+    /// A number in the header fits no drive, or a reserved byte of the header isn't zero.
     Header,
 
     /// A record names a queue that the drive doesn't have.
@@ -23,22 +23,22 @@ pub enum Reason {
     /// Reserved bytes of a record aren't zero.
     Reserved,
 
-    /// A record's length isn't that of the data that its entry brings.
+    /// The length in a record isn't that of the host data for its entry.
     Length,
 
     /// Bytes follow the last record.
     Trailing,
 
-    /// A line of a host script has no meaning.
+    /// A line of a host script means nothing.
     HostLine,
 
-    /// A result doesn't begin as a result does.
+    /// The result doesn't begin as a result does.
     ResultMagic,
 
-    /// A result is of another number of commands.
+    /// The result is for a different number of commands.
     ResultCount,
 
-    /// An order names a queue that has no further command.
+    /// An order names a queue that has no more commands.
     ResultOrder,
 }
 
@@ -102,7 +102,7 @@ impl fmt::Display for Which {
     }
 }
 
-/// Why bytes are no session, or no front of a result.
+/// Why bytes aren't a session, or aren't the front of a result.
 #[derive(Clone, Copy, Debug, PartialEq, Eq, Error)]
 pub enum FileErr {
     #[error("no memory")]
@@ -117,7 +117,7 @@ pub enum FileErr {
     Large { which: Which, number: u64 },
 }
 
-/// Something is wrong at an offset.
+/// The error that the input is wrong at `offset`.
 pub fn bad(reason: Reason, offset: usize) -> FileErr
     ensures { result ≡ FileErr.Bad reason offset }
 {
@@ -127,7 +127,7 @@ pub fn bad(reason: Reason, offset: usize) -> FileErr
     }
 }
 
-/// A number is over its limit.
+/// The error that `number` is over its limit.
 pub fn large(which: Which, number: u64) -> FileErr
     ensures { result ≡ FileErr.Large which number }
 {

@@ -5,10 +5,10 @@ use zns_io::Bytes;
 /// What a source gave.
 #[derive(Drop)]
 pub enum Given {
-    /// A session, and nothing after it.
+    /// A session and nothing after it.
     Whole(Session),
 
-    /// These bytes so far. No session has to begin with them, and more may come.
+    /// The bytes that were read so far. They need not begin with a session, and more may come.
     Front(Bytes),
 }
 
@@ -17,10 +17,10 @@ pub enum Given {
 pub struct Begun {
     pub session: Session,
 
-    /// How many bytes spell it.
+    /// The length of the session in bytes.
     pub len: u64,
 
-    /// What was read after it so far.
+    /// The bytes that were read after it.
     pub rest: Feed,
 }
 
@@ -30,6 +30,6 @@ pub enum First {
     /// A session.
     Session(Begun),
 
-    /// These bytes so far. No session has to begin with them, and more may come.
+    /// The bytes that were read so far. They need not begin with a session, and more may come.
     Other(Bytes),
 }

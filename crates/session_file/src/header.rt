@@ -7,10 +7,10 @@ use crate::fields::{u16_at, u32_at, u64_at};
 use crate::file_err::{FileErr, Reason, Which, bad, large};
 use zns_types::{Field, GeomErr, Geometry, GeometryFields};
 
-/// The bytes of a header.
+/// The length of a header in bytes.
 pub const HEADER_LEN: usize = 64;
 
-/// The most commands of a session.
+/// The most commands that a session can have.
 const MOST_COMMANDS: u32 = 262_144;
 
 /// What a header says.
@@ -20,7 +20,7 @@ pub struct Header {
     pub commands: u32,
 }
 
-// Where a number of the drive stands in the header.
+// The offset in the header of a number of the drive.
 fn place_in_header(field: Field) -> usize
     ensures { result ≡ place_of field }
 {
@@ -39,14 +39,14 @@ fn place_in_header(field: Field) -> usize
     }
 }
 
-// What is said of a number that makes no drive.
+// The error for a number that fits no drive.
 fn bad_number(field: Field) -> FileErr
     ensures { result ≡ FileErr.Bad Reason.Header (place_of field) }
 {
     bad(Reason::Header, place_in_header(field))
 }
 
-// What is said of a number over its limit.
+// The error for a number over its limit.
 fn large_number(field: Field, number: u64) -> FileErr
     ensures { result ≡ over_limit field number }
 {
@@ -75,7 +75,7 @@ impl From<GeomErr> for FileErr {
     }
 }
 
-// Whether there are 64 bytes that begin as a session does.
+// Checks that there are 64 bytes and that they begin as a session does.
 #[tactic(auto, unfolding(crate::specs::FileRules::start_rows))]
 fn check_start(bytes: &[u8]) -> Result<(), FileErr>
     ensures passed { OnOk result (NoneBroken (start_rows bytes.now)) }
@@ -115,7 +115,7 @@ fn geometry_fields(bytes: &[u8]) -> GeometryFields
     }
 }
 
-// The number of commands, and whether zeros follow it.
+// The number of commands. Also checks that zeros follow it.
 #[tactic(auto, unfolding(crate::specs::FileRules::end_rows, crate::specs::Places::count_in))]
 fn check_end(bytes: &[u8]) -> Result<u32, FileErr>
     requires { 64 ≤ length bytes.now }
@@ -134,7 +134,7 @@ fn check_end(bytes: &[u8]) -> Result<u32, FileErr>
     Ok(commands)
 }
 
-/// What the first 64 bytes of a session say, or the first of their rules that is broken.
+/// Reads the first 64 bytes of a session. An error names the first broken rule.
 pub fn read_header(bytes: &[u8]) -> Result<Header, FileErr>
     ensures geometry { IfOk result (λ h. h.geometry.fields ≡ geometry_in bytes.now) }
     ensures commands { IfOk result (λ h. h.commands ≡ count_in bytes.now) }

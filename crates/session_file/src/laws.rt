@@ -1,4 +1,4 @@
-//! What holds of the bytes of all sessions, each the contract of a function that does nothing.
+//! Laws of the bytes of all sessions, each the contract of a function that does nothing.
 
 ghost use Rattle.session_file.specs.Laws.{SpellsOne, BeginsWithOne, NamesOneOrder};
 

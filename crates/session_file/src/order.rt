@@ -2,7 +2,7 @@ ghost use Rattle.std.specs.Prelude.{◌≡◌, ◌<◌, ◌↔◌, [], IsTrue, l
 
 use std::marker::Model;
 
-/// The queues of acts, in the order in which the acts were served.
+/// The queue of each act, in the order in which the acts were served.
 #[derive(Drop)]
 pub struct Order {
     queues: Vec<u16>,
@@ -29,21 +29,21 @@ impl Order {
         Order { queues }
     }
 
-    /// How many acts there are.
+    /// The number of acts.
     pub fn len(&self) -> u32
         ensures { result ≡ length self.now }
     {
         self.queues.len() as u32
     }
 
-    /// Whether there are none.
+    /// Whether there are no acts.
     pub fn is_empty(&self) -> bool
         ensures { IsTrue result ↔ (self.now ≡ []) }
     {
         self.queues.is_empty()
     }
 
-    /// The queue of an act by its number from 0.
+    /// The queue of the act at `number`, counted from 0.
     pub fn queue(&self, number: u32) -> u16
         requires { number < length self.now }
         ensures { result ≡ slice_index self.now number }

@@ -14,10 +14,10 @@ use zone_model::Acts;
 // The most queues of a drive.
 const MOST_QUEUES: usize = 17;
 
-// The bytes before the queues.
+// The length of a result's text and count, in bytes. The queues follow.
 const FRONT_LEN: usize = 12;
 
-// How many acts each queue has.
+// The number of acts for each queue.
 fn count_acts(acts: &Acts) -> [u32; 17]
     requires { All (λ (a : Act). a.queue < 17) acts.now.acts }
     ensures long { length result ≡ 17 }
@@ -30,7 +30,7 @@ fn count_acts(acts: &Acts) -> [u32; 17]
     counts
 }
 
-// Takes one off the acts that a queue has left, if it has any.
+// Takes one from the acts left for `queue`. Returns whether it had any.
 fn take_one(left: &mut [u32; 17], queue: u16) -> bool
     ensures some { result ≡ true → (queue < 17) × (0 < slice_index left.old queue) }
     ensures none { result ≡ false → queue < 17 → slice_index left.old queue ≡ 0 }
@@ -46,7 +46,7 @@ fn take_one(left: &mut [u32; 17], queue: u16) -> bool
     true
 }
 
-// The queues from an offset on, each of which has a further act.
+// The queues that stand at `at`, each of which has another act when it is named.
 fn read_queues(alloc: Global, bytes: &[u8], at: usize, acts: &Acts) -> Result<Vec<u16>, FileErr>
     requires within { at + 2 * length acts.now.acts ≤ length bytes.now }
     requires few { All (λ (a : Act). a.queue < 17) acts.now.acts }
@@ -71,7 +71,7 @@ fn read_queues(alloc: Global, bytes: &[u8], at: usize, acts: &Acts) -> Result<Ve
     Ok(queues)
 }
 
-// Where the queues of so many acts begin, in a result that begins at an offset.
+// The offset at which the queues of `acts` acts begin, in a result that begins at `from`.
 #[tactic(auto, unfolding(crate::specs::Orders::order_front_rows))]
 fn check_front(bytes: &[u8], from: usize, acts: u32) -> Result<usize, FileErr>
     requires { from ≤ length bytes.now }
@@ -94,8 +94,8 @@ fn check_front(bytes: &[u8], from: usize, acts: u32) -> Result<usize, FileErr>
     Ok(at)
 }
 
-/// The order at the front of a result that begins at an offset. An error names the first rule that
-/// is broken.
+/// The order at the front of a result that begins at an offset. An error names the first broken
+/// rule.
 pub fn read_order(
     alloc: Global,
     bytes: &[u8],
@@ -119,7 +119,7 @@ pub fn read_order(
     Ok(Order::from_vec(queues))
 }
 
-// An error in bytes, in those that have so many others before them.
+// Moves an error's offset on by `before`, the number of bytes that come first.
 fn later(error: FileErr, before: u64) -> FileErr
     requires few { before ≤ 2 ^ 32 }
     requires within { IsWithin (2 ^ 63) error }
@@ -134,9 +134,9 @@ fn later(error: FileErr, before: u64) -> FileErr
     }
 }
 
-/// The order at the front of a result that begins after so many bytes of an input, of which these
-/// come next: as many as an order of the acts has, or all. An error names the first rule that is
-/// broken, with its offset in the input.
+/// The order at the front of a result that begins after `before` bytes of an input. `bytes` come
+/// next: as many as an order of the acts has, or all that are left. An error names the first broken
+/// rule, with its offset in the input.
 pub fn read_order_after(
     alloc: Global,
     bytes: &[u8],

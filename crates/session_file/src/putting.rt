@@ -4,7 +4,7 @@ ghost use Rattle.byteorder.specs.Endian.{little_bytes};
 use byteorder::{ByteOrder, LittleEndian};
 use zns_io::NoMemory;
 
-/// Two bytes more.
+/// Appends `number` in two bytes, little-endian.
 pub fn put_u16(file: &mut Vec<u8>, number: u16) -> Result<(), NoMemory>
     ensures { OnOk result (file.new.items ≡ file.old.items ++ little_bytes 2 number) }
 {
@@ -14,7 +14,7 @@ pub fn put_u16(file: &mut Vec<u8>, number: u16) -> Result<(), NoMemory>
     Ok(())
 }
 
-/// Four bytes more.
+/// Appends `number` in four bytes, little-endian.
 pub fn put_u32(file: &mut Vec<u8>, number: u32) -> Result<(), NoMemory>
     ensures { OnOk result (file.new.items ≡ file.old.items ++ little_bytes 4 number) }
 {
@@ -24,7 +24,7 @@ pub fn put_u32(file: &mut Vec<u8>, number: u32) -> Result<(), NoMemory>
     Ok(())
 }
 
-/// Eight bytes more.
+/// Appends `number` in eight bytes, little-endian.
 pub fn put_u64(file: &mut Vec<u8>, number: u64) -> Result<(), NoMemory>
     ensures { OnOk result (file.new.items ≡ file.old.items ++ little_bytes 8 number) }
 {

@@ -12,7 +12,8 @@ use std::alloc::Global;
 use zns_types::Geometry;
 use zone_model::Acts;
 
-// So many acts after the header, and where the last of their records ends.
+// Reads `commands` acts after the header. Returns them and the offset at which the last record
+// ends.
 fn read_acts(
     alloc: Global,
     g: &Geometry,
@@ -44,7 +45,8 @@ fn read_acts(
     Ok((acts, progress.at))
 }
 
-/// The session at the front of bytes, and its length. An error names the first rule that is broken.
+/// The session at the front of `bytes`, and its length in bytes. An error names the first broken
+/// rule.
 pub fn read_front(alloc: Global, bytes: &[u8]) -> Result<(Session, u64), FileErr>
     ensures session { IfOk result (λ r. IsSession r.0) }
     ensures spelled { IfOk result (λ r. spells r.0 (take r.1 bytes.now)) }
@@ -61,7 +63,7 @@ pub fn read_front(alloc: Global, bytes: &[u8]) -> Result<(Session, u64), FileErr
     Ok((Session::new(header.geometry, acts), end as u64))
 }
 
-/// The session of bytes. An error names the first rule that is broken.
+/// The session that `bytes` are. An error names the first broken rule.
 pub fn read(alloc: Global, bytes: &[u8]) -> Result<Session, FileErr>
     ensures session { IfOk result IsSession }
     ensures spelled { IfOk result (λ s. spells s bytes.now) }

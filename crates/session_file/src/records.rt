@@ -13,13 +13,13 @@ use zns_io::{Bytes, NoMemory};
 use zns_types::Geometry;
 use zone_model::Act;
 
-/// The bytes of a record without its host data.
+/// The length of a record without its host data, in bytes.
 pub const RECORD_LEN: usize = 72;
 
-// The most bytes that the acts of a session send, and the most that they ask for.
+// The most bytes that a session's acts can send, and the most that they can ask for.
 const MOST_MOVED: u64 = 1 << 27;
 
-/// How far a session was read.
+/// How far a session has been read.
 #[derive(Clone, Copy)]
 pub struct Progress {
     /// The offset of the next record.
@@ -32,7 +32,8 @@ pub struct Progress {
     pub asked: u64,
 }
 
-/// How far the record at an offset leads, or the first of its rules that is broken.
+/// Checks the record at `before.at`. Returns how far the session is read after it; an error names
+/// the first broken rule.
 #[tactic(auto, unfolding(crate::specs::FileRules::record_rows, crate::specs::Places::act_at, crate::specs::Places::length_at))]
 pub fn check_record(g: &Geometry, bytes: &[u8], before: Progress) -> Result<Progress, FileErr>
     requires within { before.at ≤ length bytes.now }
@@ -86,7 +87,7 @@ pub fn check_record(g: &Geometry, bytes: &[u8], before: Progress) -> Result<Prog
     })
 }
 
-/// The act of the record at an offset, which ends at another.
+/// The act of the record that begins at `at` and ends at `next`.
 #[tactic(auto, unfolding(crate::specs::Places::act_at, crate::specs::Places::length_at))]
 pub fn read_act(alloc: Global, bytes: &[u8], at: usize, next: usize) -> Result<Act, NoMemory>
     requires next { next ≡ next_at at bytes.now }

@@ -8,7 +8,7 @@ use std::marker::Model;
 use zns_io::{Bytes, NoMemory};
 use zone_model::Acts;
 
-/// A result file in the making: the order of the acts, and the replies so far.
+/// A result file that is being written: the order of the acts, and the replies so far.
 #[derive(Drop)]
 pub struct ResultFile {
     file: Vec<u8>,
@@ -23,7 +23,7 @@ impl Model for ResultFile {
 }
 
 impl ResultFile {
-    /// The result of acts that are served in the order in which they stand, with no reply yet.
+    /// The result of acts that are served in their own order, with no replies yet.
     pub fn new(alloc: Global, acts: &Acts) -> Result<ResultFile, NoMemory>
         ensures { IfOk result (λ r. r ≡ order_bytes (own_order acts.now.acts)) }
     {
@@ -32,7 +32,7 @@ impl ResultFile {
         Ok(ResultFile { file })
     }
 
-    /// One reply more, by its entries and the bytes that it read.
+    /// Appends a reply: its entries and the bytes that it read.
     pub fn put(&mut self, entries: &[Cqe], read: &[u8]) -> Result<(), NoMemory>
         requires few { length entries.now < 2 ^ 16 }
         requires short { length read.now < 2 ^ 32 }
@@ -41,8 +41,8 @@ impl ResultFile {
         put_part(&mut self.file, entries, read)
     }
 
-    /// The whole file, with the descriptor of every zone in 64 bytes each, and the 4,096 bytes of
-    /// the page of changed zones.
+    /// Completes the file with the descriptors of all zones, of 64 bytes each, and the page of
+    /// changed zones, of 4,096 bytes.
     pub fn finish(self, descriptors: &[u8], page: &[u8]) -> Result<Bytes, NoMemory>
         ensures { IfOk result (λ b. b ≡ self ++ descriptors.now ++ page.now) }
     {

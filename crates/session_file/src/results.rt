@@ -11,7 +11,7 @@ use std::alloc::Global;
 use zns_io::{Bytes, NoMemory};
 use zone_model::{Acts, Journal, Replies, Reply};
 
-// The queues of the acts, in two bytes each.
+// Appends the queues of the acts in the order served, two bytes each.
 fn put_queues(file: &mut Vec<u8>, journal: &Journal) -> Result<(), NoMemory>
     ensures { OnOk result (file.new.items
         ≡ file.old.items ++ flat_map (little_bytes 2) (own_order journal.now.acts)) }
@@ -22,7 +22,7 @@ fn put_queues(file: &mut Vec<u8>, journal: &Journal) -> Result<(), NoMemory>
     Ok(())
 }
 
-// The order in which the acts were served.
+// Appends the order in which the acts were served.
 fn put_order(file: &mut Vec<u8>, journal: &Journal) -> Result<(), NoMemory>
     ensures { OnOk result (file.new.items
         ≡ file.old.items ++ order_bytes (own_order journal.now.acts)) }
@@ -33,7 +33,7 @@ fn put_order(file: &mut Vec<u8>, journal: &Journal) -> Result<(), NoMemory>
     Ok(())
 }
 
-// The queues of acts in the order in which they stand, in two bytes each.
+// Appends the queues of the acts in their own order, two bytes each.
 fn put_own_queues(file: &mut Vec<u8>, acts: &Acts) -> Result<(), NoMemory>
     ensures { OnOk result (file.new.items
         ≡ file.old.items ++ flat_map (little_bytes 2) (own_order acts.now.acts)) }
@@ -44,7 +44,7 @@ fn put_own_queues(file: &mut Vec<u8>, acts: &Acts) -> Result<(), NoMemory>
     Ok(())
 }
 
-/// The order of acts that are served as they stand.
+/// Appends the order of acts that are served in their own order.
 pub fn put_own_order(file: &mut Vec<u8>, acts: &Acts) -> Result<(), NoMemory>
     ensures { OnOk result (file.new.items
         ≡ file.old.items ++ order_bytes (own_order acts.now.acts)) }
@@ -55,7 +55,7 @@ pub fn put_own_order(file: &mut Vec<u8>, acts: &Acts) -> Result<(), NoMemory>
     Ok(())
 }
 
-// Entries, in 16 bytes each.
+// Appends entries, 16 bytes each.
 fn put_entries(file: &mut Vec<u8>, entries: &[Cqe]) -> Result<(), NoMemory>
     ensures { OnOk result (file.new.items ≡ file.old.items ++ flat_map entry_bytes entries.now) }
 {
@@ -65,7 +65,7 @@ fn put_entries(file: &mut Vec<u8>, entries: &[Cqe]) -> Result<(), NoMemory>
     Ok(())
 }
 
-/// What is written of an act: its entries and what it read, each with its number before it.
+/// Appends a reply: its entries and the bytes that it read, each after their number.
 pub fn put_part(file: &mut Vec<u8>, entries: &[Cqe], read: &[u8]) -> Result<(), NoMemory>
     requires few { length entries.now < 2 ^ 16 }
     requires short { length read.now < 2 ^ 32 }
@@ -78,7 +78,7 @@ pub fn put_part(file: &mut Vec<u8>, entries: &[Cqe], read: &[u8]) -> Result<(), 
     Ok(())
 }
 
-// A reply.
+// Appends a reply.
 fn put_reply(file: &mut Vec<u8>, reply: &Reply) -> Result<(), NoMemory>
     requires { IsShort reply.now }
     ensures { OnOk result (file.new.items ≡ file.old.items ++ part_of reply.now) }
@@ -86,7 +86,7 @@ fn put_reply(file: &mut Vec<u8>, reply: &Reply) -> Result<(), NoMemory>
     put_part(file, reply.entries.as_slice(), reply.read.as_slice())
 }
 
-// All replies, in order.
+// Appends all replies in order.
 fn put_replies(file: &mut Vec<u8>, replies: &Replies) -> Result<(), NoMemory>
     requires { All IsShort replies.now.replies }
     ensures { OnOk result (file.new.items
@@ -98,8 +98,8 @@ fn put_replies(file: &mut Vec<u8>, replies: &Replies) -> Result<(), NoMemory>
     Ok(())
 }
 
-/// The result file of acts that were served: their order, the replies to them, the descriptor of
-/// every zone in 64 bytes each, and the 4,096 bytes of the page of changed zones.
+/// The result file of acts that were served: their order, the replies to them, the descriptors of
+/// all zones, of 64 bytes each, and the page of changed zones, of 4,096 bytes.
 #[tactic(auto, unfolding(crate::specs::Results::result_parts))]
 pub fn write_result(
     alloc: Global,

@@ -5,9 +5,9 @@ use std::marker::Model;
 use zns_types::Geometry;
 use zone_model::Acts;
 
-/// A drive's numbers and acts, as one file can hold them: at most 262,144 acts, each on a queue of
-/// the drive and with the host data that its entry brings; together they send at most 2^27 bytes
-/// and ask for at most 2^27.
+/// A drive's numbers and acts, within the limits of a file: at most 262,144 acts, each on a queue
+/// of the drive and with the host data for its entry. Together they send at most 2^27 bytes and ask
+/// for at most 2^27.
 #[derive(Drop)]
 pub struct Session {
     geometry: Geometry,
@@ -41,7 +41,7 @@ impl Session {
         &self.geometry
     }
 
-    /// The acts, in the file's order.
+    /// The acts, in the order of the file.
     pub fn acts(&self) -> &Acts
         ensures acts { result.now.acts ≡ self.now.acts }
         ensures session { IsSession self.now }

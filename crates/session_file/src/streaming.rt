@@ -18,20 +18,21 @@ use zns_io::{Bytes, NoMemory, Source};
 use zns_types::Geometry;
 use zone_model::{Act, Acts};
 
-// No session is longer, so no record is.
+// The most bytes that a record can need: no session is longer than this.
 const MOST_HELD: usize = 1 << 28;
 
-// How many bytes are held at most before a header is taken: no more than fit one piece after it.
+// The most bytes held before the header is taken, so that at most one piece follows it.
 const MOST_FIRST: usize = HEADER_LEN + PIECE;
 
-/// A record that was taken: its act, and how much the session moves with it.
+/// A record that was taken: its act, and how far the session is read after it.
 #[derive(Drop)]
 pub struct Taken {
     pub act: Act,
     pub after: Progress,
 }
 
-// The records that were taken, how many bytes of host data they have, and whether they are all.
+// The records that were taken, the bytes of host data in them, and whether they are all of the
+// session's.
 #[derive(Drop)]
 struct Records {
     acts: Acts,
@@ -39,7 +40,7 @@ struct Records {
     all: bool,
 }
 
-// The record that comes next, or none where what comes breaks a rule of records.
+// Takes the next record. Returns none if what comes next breaks a rule of records.
 fn take_record<S: Source>(
     alloc: Global,
     source: &mut S,
@@ -74,7 +75,7 @@ fn take_record<S: Source>(
     Ok(None)
 }
 
-// So many records, or those before the first that breaks a rule.
+// Takes `commands` records, or those before the first that breaks a rule.
 fn take_records<S: Source>(
     alloc: Global,
     source: &mut S,
@@ -129,7 +130,7 @@ fn take_records<S: Source>(
     })
 }
 
-// The bytes that were read, again: those of a header and of acts, and those that came after them.
+// Rebuilds the bytes that were read: those of the header and the acts, then `rest`.
 fn read_bytes(alloc: Global, header: &Header, acts: &Acts, rest: &[u8]) -> Result<Bytes, NoMemory>
     requires acts { All (IsAct header.now.geometry.fields) acts.now.acts }
     requires sent { sent_bytes acts.now.acts ≤ 2 ^ 27 }
@@ -143,7 +144,7 @@ fn read_bytes(alloc: Global, header: &Header, acts: &Acts, rest: &[u8]) -> Resul
     Ok(Bytes::from_vec(file))
 }
 
-// Whether nothing is held, and the source has ended.
+// Whether nothing is held and the source has ended.
 fn has_ended<S: Source>(alloc: Global, source: &mut S, feed: &mut Feed) -> Result<bool, FeedErr>
     ensures goes_on { GoesOn (S.left source.old) (S.left source.new) feed.old feed.new }
     ensures held { length feed.new ≤ length feed.old + 65536 }
@@ -160,7 +161,7 @@ fn has_ended<S: Source>(alloc: Global, source: &mut S, feed: &mut Feed) -> Resul
     Ok(!some)
 }
 
-// What a source begins with whose header was taken.
+// What a source begins with, once its header was taken.
 fn begin_after<S: Source>(
     alloc: Global,
     source: &mut S,
@@ -188,9 +189,9 @@ fn begin_after<S: Source>(
     Ok(First::Other(bytes))
 }
 
-/// Reads a source to the end of the session that it begins with, and no more than a piece further.
-/// The host data of the acts is kept once; the bytes of the session aren't. Where it begins with no
-/// session, what was read is given back.
+/// Reads a source to the end of the session that it begins with, and at most one piece further. The
+/// host data of the acts is kept once; the bytes of the session aren't kept. If the source doesn't
+/// begin with a session, returns what was read.
 pub fn begin_from<S: Source>(alloc: Global, source: &mut S) -> Result<First, FeedErr>
     ensures begins { IfOk result (Begins (S.left source.old) (S.left source.new)) }
     ensures stops { OnErr result
@@ -210,7 +211,7 @@ pub fn begin_from<S: Source>(alloc: Global, source: &mut S) -> Result<First, Fee
     }
 }
 
-// The bytes of a session, and those that came after it.
+// The bytes of a session, and then `rest`.
 fn spelled(alloc: Global, session: &Session, rest: &[u8]) -> Result<Bytes, NoMemory>
     ensures { IfOk result (λ b. b ≡ spelling session.now ++ rest.now) }
 {
@@ -219,9 +220,9 @@ fn spelled(alloc: Global, session: &Session, rest: &[u8]) -> Result<Bytes, NoMem
     Ok(Bytes::from_vec(file))
 }
 
-/// Reads a source to the end of a session, and to the end of the source where nothing comes after
-/// it. The host data of the acts is kept once; the input as a whole isn't. Where what comes is no
-/// session, it's given back as far as it was read.
+/// Reads a source to the end of a session, and to the end of the source if nothing comes after it.
+/// The host data of the acts is kept once; the whole input isn't kept. If the source isn't just a
+/// session, returns what was read.
 pub fn read_from<S: Source>(alloc: Global, source: &mut S) -> Result<Given, FeedErr>
     ensures gives { IfOk result (Gives (S.left source.old) (S.left source.new)) }
     ensures stops { OnErr result

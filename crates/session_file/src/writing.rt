@@ -11,7 +11,7 @@ use zns_io::{Bytes, NoMemory};
 use zns_types::GeometryFields;
 use zone_model::{Act, Acts};
 
-// The start of a header: its text, and the numbers of one byte.
+// Appends the start of a header: its text, and the numbers of one byte.
 fn put_start(file: &mut Vec<u8>, g: &GeometryFields) -> Result<(), NoMemory>
     ensures { OnOk result (file.new.items ≡ file.old.items ++ start_bytes g.now) }
 {
@@ -20,7 +20,7 @@ fn put_start(file: &mut Vec<u8>, g: &GeometryFields) -> Result<(), NoMemory>
     Ok(())
 }
 
-// The number and the sizes of zones.
+// Appends the number and the sizes of the zones.
 fn put_zones(file: &mut Vec<u8>, g: &GeometryFields) -> Result<(), NoMemory>
     ensures { OnOk result (file.new.items ≡ file.old.items ++ zones_bytes g.now) }
 {
@@ -30,7 +30,7 @@ fn put_zones(file: &mut Vec<u8>, g: &GeometryFields) -> Result<(), NoMemory>
     Ok(())
 }
 
-// How many zones may be active, opened, and have a random write area.
+// Appends how many zones may be active, be open, and have a random write area.
 fn put_limits(file: &mut Vec<u8>, g: &GeometryFields) -> Result<(), NoMemory>
     ensures { OnOk result (file.new.items ≡ file.old.items ++ limits_bytes g.now) }
 {
@@ -40,7 +40,7 @@ fn put_limits(file: &mut Vec<u8>, g: &GeometryFields) -> Result<(), NoMemory>
     Ok(())
 }
 
-// The sizes of random write areas, and the queues.
+// Appends the sizes of random write areas, and the queues.
 fn put_windows(file: &mut Vec<u8>, g: &GeometryFields) -> Result<(), NoMemory>
     ensures { OnOk result (file.new.items ≡ file.old.items ++ windows_bytes g.now) }
 {
@@ -51,7 +51,7 @@ fn put_windows(file: &mut Vec<u8>, g: &GeometryFields) -> Result<(), NoMemory>
     Ok(())
 }
 
-/// The header of a session of so many acts.
+/// Appends the header of a session of `acts` acts.
 pub fn put_header(file: &mut Vec<u8>, g: &GeometryFields, acts: u32) -> Result<(), NoMemory>
     ensures { OnOk result (file.new.items ≡ file.old.items ++ header_bytes g.now acts) }
 {
@@ -64,7 +64,7 @@ pub fn put_header(file: &mut Vec<u8>, g: &GeometryFields, acts: u32) -> Result<(
     Ok(())
 }
 
-// The record of an act.
+// Appends the record of an act.
 fn put_act(file: &mut Vec<u8>, act: &Act) -> Result<(), NoMemory>
     requires { length act.now.payload < 2 ^ 32 }
     ensures { OnOk result (file.new.items ≡ file.old.items ++ record_bytes act.now) }
@@ -78,7 +78,7 @@ fn put_act(file: &mut Vec<u8>, act: &Act) -> Result<(), NoMemory>
     Ok(())
 }
 
-/// The records of acts, in order.
+/// Appends the records of acts in order.
 pub fn put_acts(file: &mut Vec<u8>, acts: &Acts) -> Result<(), NoMemory>
     requires { All (λ (a : Act). length a.payload < 2 ^ 32) acts.now.acts }
     ensures { OnOk result (file.new.items

@@ -1,4 +1,4 @@
--- A deed to one of the lent cells makes of all of them those of the longer history, and of the counts its counts.
+-- A deed to one of the lent cells turns all of them into those of the longer history, and the counts into its counts.
 use Rattle.std.proofs.Common.{◌≡◌, ◌≢◌, ℕ, ◌+◌, ◌<◌, ◌≤◌, Bool, true, false, cond, List, Option, Some, None, length, set, refl, sym, ap, ◌∙◌, arith, inl, inr}
 use Rattle.std.specs.Prelude.{◌==◌, ◌&&◌, ◌⊎◌, not}
 use Rattle.std.specs.List.{range_with_len}
@@ -33,7 +33,7 @@ use Rattle.solo_drive.specs.Parts.{cell_at, cells_at}
 use Rattle.solo_drive.proofs.Cells.{sight-cell, cell-idle, cell-done}
 use Rattle.solo_drive.proofs.Judging.{aim_wants, evicted-aim}
 
--- the cells of so many zones from one on, with the zone of an aim at a place among them
+-- the cells of consecutive zones, with the zone of an aim at a place among them
 pub record AimsAt (g : GeometryFields) (h : List Place) (aim : Aim) (cells : List Cell) (first n place : ℕ) : Type 0 where
   pub lent : cells ≡ cells_at g h (range_with_len first n)
   pub within : first + n ≤ g.zones
@@ -97,7 +97,7 @@ pub aim-done : (g : GeometryFields) (acts : List Act) (a : Act) (aim : Aim) (cel
 aim-done g acts a aim cells first count place d at =
     ap (after_deed g aim.deed a.payload) (aim-cell g (answered g acts) aim cells first count place at) ∙ cell-done g acts a aim.zone aim.deed d.valid d.len (deed-aim g (answered g acts) a aim d.aims d.ok)
 
--- nothing is done to the zones but these two
+-- nothing is done to any zone but these two
 other-idle : (g : GeometryFields) (h : List Place) (a : Act) (aim : Aim) (z : ℕ) → aim_of g (command_of a) ≡ Some aim → is_success (status g h a) ≡ true → z ≢ aim.zone → is_zone z (evicted g h a) ≡ false → zone_deed g h a z ≡ None
 other-idle g h a aim z is ok apart kept = deed-other g h a aim z is ok apart ∙ ap (or_close None) kept
 

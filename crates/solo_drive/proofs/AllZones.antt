@@ -102,7 +102,7 @@ sweep-of g h cid _ d passes e = absurd (cc e)
 
 -- ---- the cells of all zones
 
--- a count of cells is one of their zones
+-- a count of cells is a count of their zones
 count-map : (p : Cell → Bool) (f : ℕ → Cell) (zs : List ℕ) → count_by p (map f zs) ≡ count_by (λ z. p (f z)) zs
 count-map p f [] = refl
 count-map p f (z ∷ zs) = sum_by-cons (λ c. cond (p c) 1 0) (f z) (map f zs) ∙ ap (λ (n : ℕ). cond (p (f z)) 1 0 + n) (count-map p f zs) ∙ sym (sum_by-cons (λ x. cond (p (f x)) 1 0) z zs)

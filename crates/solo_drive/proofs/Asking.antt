@@ -1,4 +1,4 @@
--- What the parts of a drive give to one who serves an act on them.
+-- What the parts of a drive provide for serving an act on them.
 use Rattle.std.proofs.Common.{◌≡◌, ℕ, ◌+◌, ◌-◌, ◌*◌, ◌<◌, ◌≤◌, Bool, true, List, Some, None, length, get_or, refl, sym, ap, ◌∙◌, subst, arith}
 use Rattle.std.specs.Prelude.{◌==◌, All}
 use Rattle.std.proofs.Math.Path.{transport}
@@ -49,11 +49,11 @@ among-of g a aim cells book valid passes aims below p = aim-among g (history_of 
 pub some-cell : (g : GeometryFields) (h : List Place) (cells : List Cell) (zone : ℕ) → IsAmong g h cells zone → 0 < length cells
 some-cell g h cells zone m = omega (arith, length-among g h cells zone m, m.low, m.high)
 
--- each of them is one of the drive's
+-- each of them is a cell of the drive
 each-there : (g : GeometryFields) (h : List Place) (cells : List Cell) (zone k : ℕ) (d : Cell) (m : IsAmong g h cells zone) → k < length cells → get_or cells k d ≡ cell_at g h (m.first + k)
 each-there g h cells zone k d m lt = ap (λ (cs : List Cell). get_or cs k d) m.stand ∙ get_or-map-range_with_len (cell_at g h) m.first m.count k (m.first + k) d (omega (arith, lt, length-among g h cells zone m)) refl
 
--- the first of them is of the first zone
+-- the first of them is that of the first zone
 pub first-zone : (g : GeometryFields) (h : List Place) (cells : List Cell) (zone n : ℕ) (c : Cell) (m : IsAmong g h cells zone) → n ≡ (get_or cells 0 c).zone → n ≡ m.first
 first-zone g h cells zone n c m e = e ∙ ap (λ (d : Cell). d.zone) (each-there g h cells zone 0 c m (some-cell g h cells zone m)) ∙ zone-cell g h (m.first + 0) ∙ omega arith
 
@@ -88,7 +88,7 @@ each-counted g book cells zone valid is m k d lt =
     let shown : use_of (sight (get_or cells k d)) ≡ uses g h (m.first + k) = ap (λ (c : Cell). use_of (sight c)) (each-there g h cells zone k d m lt) ∙ ap use_of (sight-cell g h (m.first + k)) in
     subst (AreCounted g book.limits) (sym shown) (subst (λ (n : Limits). AreCounted g n (uses g h (m.first + k))) (sym is) (counted-at g book (m.first + k) valid below))
 
--- the host data are what the deed needs
+-- the host data is what the deed needs
 blocks-for : (g : GeometryFields) (d : Deed) (payload : List ℕ) → (is_write d ≡ true → 1 ≤ blocks_of d) → (is_write d ≡ true → length payload ≡ blocks_of d * block_len g) → IsBlocksFor g d payload
 blocks-for g (deed.Write from blocks) payload some whole = record { some = some refl; whole = whole refl }
 blocks-for g (deed.Append blocks) payload some whole = record { some = some refl; whole = whole refl }
@@ -111,7 +111,7 @@ pointer-is g a aim cells book place all c n k lt e =
 pub done-command : (g : GeometryFields) (a : Act) (book : Book) → is_success (status g (history_of g book) a) ≡ true → done.IsDone g (history_of g book) a (command_of a)
 done-command g a book ok = record { success = ok; command = refl }
 
--- with the new counts in the book, and what is told noted there
+-- with the new counts in the book, and what is reported noted there
 pub noted : (g : GeometryFields) (a : Act) (aim : Aim) (cells cells' : List Cell) (book book' : Book) (n : Limits) (o : Outcome) (out : List ℕ) (at : ℕ) → IsGeometry g → aim_of g (command_of a) ≡ Some aim → PartsStand g a cells book
     → IsDeedDone g a cells cells' book n → at ≡ pointer g (history_of g book) aim.zone → Tells g aim.zone at (record book { limits = n }) book' o aim.deed → IsDone g a o cells cells' book book' out out
 noted g a aim cells cells' book book' n o out at valid e p d there t =

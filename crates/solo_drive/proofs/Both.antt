@@ -1,4 +1,4 @@
--- The two calls of a command that goes ahead do what one does.
+-- The two calls for a command that goes ahead do what the single call does.
 use Rattle.std.proofs.Common.{◌≡◌, ℕ, List, ◌++◌, drop, sym, ap, ◌∙◌, inr}
 use Rattle.zns_types.specs.declared.fields.GeometryFields.{GeometryFields}
 use Rattle.zone_cell.specs.Cells.{Cell}

@@ -1,4 +1,4 @@
--- What the driver's verdict on a deed to one of the lent cells makes of the parts of a drive.
+-- The effect of the driver's verdict, on a deed to one of the lent cells, on the parts of a drive.
 use Rattle.std.proofs.Common.{◌≡◌, ℕ, ◌+◌, Bool, true, false, cond, List, ◌++◌, Option, Some, None, length, set, refl, sym, ap, ◌∙◌, arith, inl, inr}
 use Rattle.std.specs.Prelude.{◌==◌, ◌&&◌, ◌⊎◌, not, is_some, unwrap_or}
 use Rattle.std.specs.List.{range_with_len}
@@ -85,7 +85,7 @@ widened true o e = refl
 widened false None e = absurd (cc e)
 widened false (Some s) e = absurd (cc e)
 
--- what the verdict goes by
+-- what the verdict depends on
 abbrev wants_all : GeometryFields → Aim → List Cell → Book → ℕ → Bool → Bool
 wants_all g aim cells book place all = wants_room g book.limits (rows_at g cells place aim.deed) (need_at cells place aim.deed) && not all
 
@@ -128,7 +128,7 @@ refusal-is g a aim cells book place all k wide =
 
 -- ---- refused
 
--- what refuses is no success
+-- a refusing status isn't success
 fails-of : (rows : List (Row Status)) (code : Status) → refuses rows ≡ true → first_holding rows ≡ Some code → is_success code ≡ false
 fails-of rows code codes e = elim (cases_Bool (is_success code)) [
   | inl ok ↦ absurd (cc (e, success-none rows codes (ap (λ (o : Option Status). is_success (unwrap_or o success)) e ∙ ok)))

@@ -32,7 +32,7 @@ use Rattle.solo_drive.proofs.Ranges.{pieces-same}
 
 -- ---- zones
 
--- the cells of zones are of these zones
+-- the cells of zones are those of these zones
 pub zones_in-cells_at : (g : GeometryFields) (h : List Place) (zs : List ℕ) → zones_in (cells_at g h zs) ≡ zs
 unfolding cell_of
 zones_in-cells_at g h zs = map-map (λ (c : Cell). c.zone) (cell_at g h) zs ∙ map-id zs

@@ -1,4 +1,4 @@
--- The front of a log page, and zeros after the page.
+-- The start of a log page, and zeros after the page.
 use Rattle.std.proofs.Common.{◌≡◌, ℕ, suc, ◌+◌, ◌-◌, List, [], ◌∷◌, ◌++◌, length, take, drop, min, sym, ap, ◌∙◌, arith, inl, inr, append-nil, length-append}
 use Rattle.std.specs.Prelude.{replicate}
 use Rattle.std.proofs.lemmas.Bool.{cases_lt}
@@ -16,7 +16,7 @@ take-append_past (x ∷ xs) ys n =
     let e : suc (length xs) + n ≡ suc (length xs + n) = omega arith in
     ap (λ (k : ℕ). take k (x ∷ (xs ++ ys))) e ∙ ap (λ (zs : List ℕ). x ∷ zs) (take-append_past xs ys n)
 
--- so many bytes of a page of this length stand in front of zeros
+-- the first `given` bytes of a page of this length, followed by zeros
 pub page-front : (page : List ℕ) (size len given : ℕ) → length page ≡ size → given ≡ min len size → take given page ++ drop given (replicate len 0) ≡ first_bytes len page
 page-front page size len given whole is = elim (cases_lt len size) [
   | inl short ↦

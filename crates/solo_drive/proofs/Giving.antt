@@ -1,4 +1,4 @@
--- Acts that change nothing and give bytes.
+-- Acts that change nothing and return bytes.
 use Rattle.std.proofs.Common.{◌≡◌, ℕ, ◌≤◌, true, List, [], ◌++◌, None, length, drop, refl, sym, ap, ◌∙◌, subst, inr}
 use Rattle.std.specs.Prelude.{unwrap_or}
 use Rattle.zns_types.specs.declared.fields.GeometryFields.{GeometryFields}
@@ -29,7 +29,7 @@ use Rattle.solo_drive.proofs.Told.{IsSilent, silent-done}
 use Rattle.solo_drive.proofs.Plain.{plain-wants, plain-idle, plain-status}
 use Rattle.solo_drive.proofs.PlainReads.{read-len}
 
--- The command goes to no zone, has no rows after its front, changes nothing, and gives its bytes and success.
+-- The command goes to no zone, has no rows after its front, changes nothing, and returns its bytes and success.
 pub record OnlyGives (g : GeometryFields) (h : List Place) (cid : ℕ) (k : Cmd) : Type 0 where
   pub aim : aim_of g k ≡ None
   pub own : own_rows g h k ≡ []
@@ -38,7 +38,7 @@ pub record OnlyGives (g : GeometryFields) (h : List Place) (cid : ℕ) (k : Cmd)
   pub log : log_by g k (changed g h) ≡ changed g h
   pub marks : marks_by cid k (marks_of h) ≡ marks_of h
 
--- Where no row of its front refuses it, and its bytes stand in front, the act is done.
+-- If no row of its front refuses it, and its bytes come first, the act is done.
 pub gives-done : (g : GeometryFields) (a : Act) (k : Cmd) (cells : List Cell) (book : Book) (n : ℕ) (out out' : List ℕ) (o : Outcome) → IsGeometry g → PartsStand g a cells book → command_of a ≡ k → first_holding (front_rows g (command_of a)) ≡ None
     → OnlyGives g (history_of g book) (cid_of a.sqe.bytes) k → length out' ≡ length out → n ≤ length out → o ≡ record plain_success { len = n } → out' ≡ read_by g (history_of g book) k ++ drop n out → IsDone g a o cells cells book book out out'
 unfolding reply_bytes

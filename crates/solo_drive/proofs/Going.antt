@@ -1,4 +1,4 @@
--- An act that goes ahead needs nothing: no zone has to give way to it.
+-- An act that goes ahead needs no resource, so no zone has to give way to it.
 use Rattle.std.proofs.Common.{◌≡◌, ℕ, ◌<◌, Bool, true, false, List, ◌++◌, Option, Some, None, refl, ap, ◌∙◌, subst}
 use Rattle.std.specs.Prelude.{◌&&◌, nat_lt, is_none}
 use Rattle.std.proofs.Math.Bool.{and-false}
@@ -33,7 +33,7 @@ use Rattle.solo_drive.proofs.Plain.{plain-wants}
 
 -- ---- an opened zone
 
--- it is active, and needs no resource for a write
+-- an opened zone is active, and needs no resource for a write
 pub record IsUsed (s : State) : Type 0 where
   pub active : is_active s ≡ true
   pub empty : is_empty s ≡ false
@@ -67,7 +67,7 @@ aim-ahead g opened (cmd.Append nsid zslba blocks) aim e ahead =
 aim-ahead g opened (cmd.Read nsid slba blocks) aim e ahead = absurd (cc e)
 aim-ahead g opened _ aim e ahead = absurd (cc ahead)
 
--- it gives back what its zone does
+-- the act gives back what its zone does
 pub freed-aim : (g : GeometryFields) (h : List Place) (a : Act) (opened : ℕ → Bool) (k : Cmd) (aim : Aim) → aim_of g k ≡ Some aim → goes_ahead g opened k ≡ true → freed_by g h a k ≡ given_up_by g h a aim.zone
 freed-aim g h a opened (cmd.Write nsid slba blocks) aim e ahead =
     let is : record { zone = zone_of g slba; deed = deed.Write (offset_of g slba) blocks } ≡ aim = cc in
@@ -78,7 +78,7 @@ freed-aim g h a opened (cmd.Append nsid zslba blocks) aim e ahead =
 freed-aim g h a opened (cmd.Read nsid slba blocks) aim e ahead = absurd (cc e)
 freed-aim g h a opened _ aim e ahead = absurd (cc ahead)
 
--- a Read, where it is no write
+-- a command that goes ahead and isn't a write is a Read
 pub record IsRead (g : GeometryFields) (k : Cmd) : Type 0 where
   pub nsid : ℕ
   pub slba : ℕ
@@ -91,7 +91,7 @@ plain-ahead g opened (cmd.Write nsid slba blocks) e ahead = absurd (cc e)
 plain-ahead g opened (cmd.Append nsid zslba blocks) e ahead = absurd (cc e)
 plain-ahead g opened _ e ahead = absurd (cc ahead)
 
--- it asks for no event, and answers none
+-- it requests no event and answers no request
 pub ahead-event : (g : GeometryFields) (opened : ℕ → Bool) (k : Cmd) (fired : Option ℕ) → goes_ahead g opened k ≡ true → event_by k fired ≡ None
 ahead-event g opened (cmd.Excursion nsid slba kind) fired ahead = absurd (cc ahead)
 ahead-event g opened _ fired ahead = refl

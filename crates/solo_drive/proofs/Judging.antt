@@ -33,11 +33,11 @@ wants-own g n front own need none = ap (λ (o : Option Status). is_none o && evi
 abbrev pub aim_rows : GeometryFields → List Place → Aim → List (Row Status)
 aim_rows g h aim = rows_for g aim.deed (zone g h aim.zone)
 
--- what it needs
+-- what the deed needs
 abbrev pub aim_need : GeometryFields → List Place → Aim → Need
 aim_need g h aim = need_for aim.deed (zone g h aim.zone)
 
--- another zone has to give way to it
+-- another zone has to give way to the deed
 abbrev pub aim_wants : GeometryFields → List Place → Aim → Bool
 aim_wants g h aim = wants_room g (counts g h) (aim_rows g h aim) (aim_need g h aim)
 
@@ -50,11 +50,11 @@ unfolding evicted
 evicted-aim g h a aim e none =
     rw e (ap (λ (b : Bool). cond b (evictable g h (Some aim.zone)) None) (wants-own g (counts g h) (front_rows g (command_of a)) (aim_rows g h aim) (aim_need g h aim) none))
 
--- what refuses the deed, where its zone can have others give way
+-- the status that refuses the deed, if other zones can give way to its zone
 abbrev pub aim_refusal : GeometryFields → List Place → Aim → Option ℕ → Option Status
 aim_refusal g h aim victim = first_holding (aim_rows g h aim ++ need_rows g (counts g h) (aim_need g h aim) (is_some victim))
 
--- The rows of its zone and the wants of resources judge.
+-- The rows of its zone judge, and then those for the resources it needs.
 pub holding-aim : (g : GeometryFields) (h : List Place) (a : Act) (aim : Aim) → aim_of g (command_of a) ≡ Some aim → first_holding (front_rows g (command_of a)) ≡ None
     → first_holding (all_rows g h (table_of g h (command_of a))) ≡ aim_refusal g h aim (evicted g h a)
 holding-aim g h a aim e none =

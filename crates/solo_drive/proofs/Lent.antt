@@ -1,4 +1,4 @@
--- The lent cells are of a range of zones, and the zone that an act goes to is among them.
+-- The lent cells are those of a range of zones, and the zone that an act goes to is among them.
 use Rattle.std.proofs.Common.{◌≡◌, ℕ, ◌+◌, ◌-◌, ◌<◌, ◌≤◌, true, false, List, Some, None, length, refl, sym, ap, ◌∙◌, subst, arith, inl, inr}
 use Rattle.std.specs.List.{range_with_len}
 use Rattle.std.proofs.Math.Nat.{div-mul-le_self}
@@ -21,7 +21,7 @@ use Rattle.zone_model.proofs.Fronts.{write_front-within, append_front-within, ex
 use Rattle.zone_model.proofs.Sends.{HasBlocks, some_blocks, aimed-deed}
 use Rattle.solo_drive.specs.Parts.{cells_at, zones_in, CellsStand, AreLent}
 
--- so many zones of the drive from one on
+-- consecutive zones of the drive
 pub record IsRangeFrom (g : GeometryFields) (zone : ℕ) (zs : List ℕ) : Type 0 where
   pub count : ℕ
   pub all : zs ≡ range_with_len zone count
@@ -40,7 +40,7 @@ blocks-range g slba blocks is some within =
     let le : zone_of g slba ≤ last_zone g slba blocks = le-div (zone_of g slba) (slba + blocks - 1) g.zone_size is.zones.zone_size (omega (arith, div-mul-le_self slba g.zone_size)) in
     record { count = last_zone g slba blocks + 1 - zone_of g slba; all = rw (le-leb (slba + blocks) (all_blocks g) within) refl; some = omega arith; within = omega arith }
 
--- the zones that a command for a deed to one zone may read or change begin with that zone
+-- the zones that a command for a deed to one zone may read or change start with that zone
 aim-range : (g : GeometryFields) (k : Cmd) (aim : Aim) → IsGeometry g → HasBlocks k → first_holding (front_rows g k) ≡ None → aim_of g k ≡ Some aim → IsRangeFrom g aim.zone (reach_of g k)
 aim-range g (cmd.Write nsid slba blocks) aim is some none e =
     let same : zone_of g slba ≡ aim.zone = cc in
@@ -60,7 +60,7 @@ aim-range g _ aim is some none e = absurd (cc e)
 
 -- ---- lent cells
 
--- the cells are of so many zones from one on, and a zone is among them
+-- the cells are those of consecutive zones, and a zone is among them
 pub record IsAmong (g : GeometryFields) (h : List Place) (cells : List Cell) (zone : ℕ) : Type 0 where
   pub first : ℕ
   pub count : ℕ

@@ -1,4 +1,4 @@
--- A Read of lent cells reads what their history says.
+-- A Read from lent cells reads what their history says.
 use Rattle.std.proofs.Common.{◌≡◌, ℕ, ◌+◌, ◌-◌, ◌*◌, ◌<◌, ◌≤◌, Bool, true, false, List, ◌++◌, None, length, map, get_or, take, drop, refl, sym, ap, ◌∙◌, subst, arith, inl, inr}
 use Rattle.std.specs.Prelude.{All}
 use Rattle.std.specs.List.{list_any, range_with_len}
@@ -58,11 +58,11 @@ cell-there cells place c lt is = is ∙ get_or_default cells place c no_cell lt
 pub block-there : (g : GeometryFields) (first : ℕ) (cells : List Cell) (lba place : ℕ) (c : Cell) → place < length cells → place ≡ zone_of g lba - first → c ≡ get_or cells place c → bytes_at c (offset_of g lba) 1 ≡ block_from g first cells lba
 block-there g first cells lba place c lt at is = ap (λ (d : Cell). bytes_at d (offset_of g lba) 1) (cell-there cells place c lt is) ∙ ap (λ (i : ℕ). bytes_at (cell_in cells i) (offset_of g lba) 1) at
 
--- it is among the cells
+-- the zone is among the cells
 pub place-within : (g : GeometryFields) (first : ℕ) (cells : List Cell) (slba blocks lba : ℕ) → IsGeometry g → CellsReach g first cells slba blocks → slba ≤ lba → lba < slba + blocks → zone_of g lba - first < length cells
 place-within g first cells slba blocks lba is reach low high = let at = zone-between g slba blocks lba is low high in omega (arith, at.from, at.to, reach.from, reach.to)
 
--- and one of the drive's
+-- a cell that was read is one of the drive
 pub of-there : (g : GeometryFields) (cells : List Cell) (place : ℕ) (c : Cell) → All (IsOf g) cells → place < length cells → c ≡ get_or cells place c → IsOf g c
 of-there g cells place c of lt is = subst (IsOf g) (sym is) (of place c lt)
 
@@ -104,7 +104,7 @@ state-cell : (g : GeometryFields) (h : List Place) (z : ℕ) → (cell_at g h z)
 unfolding cell_of
 state-cell g h z = refl
 
--- a cell reads a block as the history says, also one past the capacity
+-- a cell reads a block as the history says, even one past the capacity
 bytes-cell : (g : GeometryFields) (acts : List Act) (z b : ℕ) → bytes_at (cell_at g (answered g acts) z) b 1 ≡ seen g (answered g acts) z b
 unfolding cell_of
 bytes-cell g acts z b =
@@ -116,14 +116,14 @@ bytes-cell g acts z b =
     ] in
     append-nil (seen_block (block_len g) (get_or blocks b None)) ∙ ap (seen_block (block_len g)) there
 
--- The lent cells, of so many zones from one on, are those of a history, and have the zones of the blocks.
+-- The lent cells, of consecutive zones, are those of a history, and include the zones of the blocks.
 pub record AreLentFor (g : GeometryFields) (acts : List Act) (first n : ℕ) (cells : List Cell) (slba blocks : ℕ) : Type 0 where
   pub geometry : IsGeometry g
   pub lent : cells ≡ cells_at g (answered g acts) (range_with_len first n)
   pub from : first ≤ zone_of g slba
   pub to : last_zone g slba blocks < first + n
 
--- A Read of the cells is one at the history.
+-- A Read from the cells is a Read at the history.
 pub record ReadsThere (g : GeometryFields) (acts : List Act) (first : ℕ) (cells : List Cell) (slba blocks : ℕ) : Type 0 where
   pub offline : list_any (λ z. is_offline (state_from first cells z)) (zones_between (zone_of g slba) (last_zone g slba blocks))
       ≡ list_any (λ z. is_offline (state g (answered g acts) z)) (zones_between (zone_of g slba) (last_zone g slba blocks))

@@ -1,4 +1,4 @@
--- What an act that goes ahead makes of its zones, and what its zone gives back.
+-- The effect of an act that goes ahead on its zones, and what its zone gives back.
 use Rattle.std.proofs.Common.{◌≡◌, ℕ, Bool, true, false, List, None, refl, sym, ap, ◌∙◌}
 use Rattle.std.specs.Prelude.{◌&&◌, not}
 use Rattle.zns_types.specs.declared.fields.GeometryFields.{GeometryFields}
@@ -30,7 +30,7 @@ and-not : (b : Bool) → (b && not b) ≡ false
 and-not true = refl
 and-not false = refl
 
--- nothing, where the use stays
+-- nothing, if the use is unchanged
 pub given-same : (u : Need) → given_up u u ≡ no_need
 given-same u =
     ap (λ (b : Bool). record { active = b; opened = u.opened && not u.opened; window = u.window && not u.window }) (and-not u.active)
@@ -62,7 +62,7 @@ read-frees g h a nsid slba blocks e = ap (freed_by g h a) (sym e)
 pub parts-of : (g : GeometryFields) (acts : List Act) (a : Act) (cells : List Cell) → CellsStand g (answered g acts) cells → AreLent g a (zones_in cells) → PartsStand g a cells (book_at g acts 0)
 parts-of g acts a cells stand lent = record { book_stands = refl; cells_stand = stand; lent = lent }
 
--- What is done on them has moved.
+-- What is done on them has moved its bytes.
 pub moved-of : (g : GeometryFields) (acts : List Act) (a : Act) (o : Outcome) (freed : Need) (cells cells' : List Cell) (book' : Book) (out out' : List ℕ) → goes_ahead g (opened_at g (answered g acts)) (command_of a) ≡ true
     → IsDone g a o cells cells' (book_at g acts 0) book' out out' → freed ≡ freed_by g (answered g acts) a (command_of a) → IsMoved g a (answered g acts) cells cells' out out' (ready_with o freed)
 moved-of g acts a o freed cells cells' book' out out' ahead d frees =

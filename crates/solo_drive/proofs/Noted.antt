@@ -85,7 +85,7 @@ plain-succeeds g h a k e own plain none = record {
 pub log-zones : (g : GeometryFields) (a : Act) (cells : List Cell) (book : Book) → PartsStand g a cells book → All (λ z. z < g.zones) book.log
 log-zones g a cells book p = subst (All (λ z. z < g.zones)) (sym (book-log g a cells book p)) (changed-below g (history_of g book))
 
--- its bytes are no more than one command may move
+-- its bytes are at most as many as one command may move
 log-fits : (g : GeometryFields) (a : Act) (nsid page bytes offset : ℕ) (retain : Bool) → command_of a ≡ cmd.GetLog nsid page bytes offset retain → first_holding (front_rows g (command_of a)) ≡ None → is_too_long g bytes ≡ false
 log-fits g a nsid page bytes offset retain e none = let (_, (_, (too_long, _))) = none_holds (log_rows g nsid page bytes offset) (rw e at none) in too_long
 

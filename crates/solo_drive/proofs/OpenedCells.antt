@@ -1,4 +1,4 @@
--- A zone that is opened by its lent cell is opened after each history that the cells stand for.
+-- A zone that is opened according to its lent cell is opened after each history that the cells stand for.
 use Rattle.std.proofs.Common.{◌≡◌, ℕ, Bool, true, false, List, [], ◌∷◌, refl, sym, ap, ◌∙◌}
 use Rattle.std.specs.Prelude.{◌==◌, ◌&&◌, ◌||◌, nat_lt}
 use Rattle.std.proofs.lemmas.Bool.{and_parts, and_from, eqb-true}
@@ -36,7 +36,7 @@ block-there g h cells lba stand is =
     let parts = and_parts (nat_lt lba (all_blocks g)) (opened_in cells (zone_of g lba)) is in
     and_from _ _ parts.0 (opened-there g h cells (zone_of g lba) stand parts.1)
 
--- What goes ahead by the cells goes ahead at the history.
+-- A command that goes ahead according to the cells goes ahead at the history.
 pub ahead-at : (g : GeometryFields) (h : List Place) (cells : List Cell) (k : Cmd) → CellsStand g h cells → goes_ahead g (opened_in cells) k ≡ true → goes_ahead g (opened_at g h) k ≡ true
 ahead-at g h cells (cmd.Read nsid slba blocks) stand is = refl
 ahead-at g h cells (cmd.Write nsid slba blocks) stand is = block-there g h cells slba stand is

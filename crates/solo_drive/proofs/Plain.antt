@@ -1,4 +1,4 @@
--- Acts that go to no one zone: refused at the front, a Flush, and a Read.
+-- Acts that don't go to a single zone: refused at the front, a Flush, and a Read.
 use Rattle.std.proofs.Common.{◌≡◌, ℕ, Bool, true, false, cond, List, [], ◌∷◌, ◌++◌, Option, Some, None, drop, refl, sym, ap, ◌∙◌, subst, inl, inr}
 use Rattle.std.specs.Prelude.{◌==◌, is_none, unwrap_or}
 use Rattle.std.proofs.Math.Bool.{and-false}
@@ -105,7 +105,7 @@ pub record IsQuiet (g : GeometryFields) (h : List Place) (cid : ℕ) (k : Cmd) :
   pub log : log_by g k (changed g h) ≡ changed g h
   pub marks : marks_by cid k (marks_of h) ≡ marks_of h
 
--- what goes to no zone, and gives or changes something
+-- a command that goes to no zone, and returns or changes something
 abbrev pub is_lively : Cmd → Bool
 is_lively (cmd.Read nsid slba blocks) = true
 is_lively (cmd.Receive nsid slba bytes act filter partial) = true
@@ -132,7 +132,7 @@ quiet g h cid (cmd.Append nsid slba blocks) passes e none other = absurd (cc e)
 quiet g h cid (cmd.Excursion nsid slba kind) passes e none other = absurd (cc e)
 quiet g h cid _ passes e none other = absurd (cc other)
 
--- it is neither of the commands that give or change something
+-- it is none of the commands that return or change something
 pub record IsOther (k : Cmd) : Type 0 where
   pub read : (nsid slba blocks : ℕ) → k ≡ cmd.Read nsid slba blocks → ⊥
   pub receive : (nsid slba bytes act filter : ℕ) (partial : Bool) → k ≡ cmd.Receive nsid slba bytes act filter partial → ⊥

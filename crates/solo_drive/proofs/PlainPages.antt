@@ -24,7 +24,7 @@ some_page : (o : Option (List ℕ)) → is_none o ≡ false → is_some o ≡ tr
 some_page None e = absurd cc
 some_page (Some page) e = refl
 
--- there is a page, where no row of the front refuses the command
+-- there is a page, if no row of the front refuses the command
 pub has-page : (g : GeometryFields) (a : Act) (nsid cns csi : ℕ) → command_of a ≡ cmd.Identify nsid cns csi → first_holding (front_rows g (command_of a)) ≡ None → is_some (page_of cns csi g) ≡ true
 has-page g a nsid cns csi e passes = some_page (page_of cns csi g) (none_holds (identify_rows g nsid cns csi) (rw e at passes)).0
 

@@ -1,4 +1,4 @@
--- A Read of lent cells.
+-- A Read from lent cells.
 use Rattle.std.proofs.Common.{◌≡◌, ℕ, ◌+◌, ◌-◌, ◌*◌, ◌<◌, ◌≤◌, Bool, true, false, cond, List, ◌++◌, Some, None, length, drop, refl, sym, ap, ◌∙◌, subst, arith, inl, inr, length-append}
 use Rattle.std.specs.Prelude.{unwrap_or}
 use Rattle.std.specs.List.{list_any, range_with_len}
@@ -39,7 +39,7 @@ use Rattle.solo_drive.proofs.LentReads.{AreLentFor, zone-between, reads-of}
 use Rattle.solo_drive.proofs.Told.{IsSilent, silent-done, refused-done}
 use Rattle.solo_drive.proofs.Plain.{plain-wants, plain-idle, plain-status}
 
--- the lent cells have all zones of a Read that no row of its front refuses
+-- the lent cells include all zones of a Read that no row of its front refuses
 pub record IsLentRead (g : GeometryFields) (h : List Place) (cells : List Cell) (slba blocks : ℕ) : Type 0 where
   pub among : IsAmong g h cells (zone_of g slba)
   pub some : 1 ≤ blocks

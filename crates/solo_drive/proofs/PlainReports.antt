@@ -1,4 +1,4 @@
--- A Zone Management Receive of the cells of all zones.
+-- A Zone Management Receive on the cells of all zones.
 use Rattle.std.proofs.Common.{◌≡◌, ℕ, ◌^◌, ◌<◌, ◌≤◌, Bool, false, List, ◌++◌, None, length, map, drop, refl, ap, ◌∙◌, arith, inl, inr}
 use Rattle.std.specs.Prelude.{All}
 use Rattle.std.proofs.lemmas.Bool.{leb-false}
@@ -47,7 +47,7 @@ descriptors-at g h zs = map-map (descriptor_of g) (λ z. cell_of g z _) zs
 
 -- ---- what a report asks for
 
--- It can be made of these cells, in so many bytes.
+-- The report can be made from these cells, in `bytes` bytes.
 pub record CanReport (g : GeometryFields) (cells : List Cell) (slba bytes size : ℕ) : Type 0 where
   pub all : length cells ≡ g.zones
   pub of : All (IsOf g) cells

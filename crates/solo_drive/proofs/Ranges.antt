@@ -24,7 +24,7 @@ none_after test from (suc n) none e =
     let last : test (from + 1 + n) ≡ false = ap test (omega arith) ∙ e in
     rw parts.0 (none_after test (from + 1) n parts.1 last)
 
--- none so far passes, and not the next
+-- none so far passes, and neither does the next
 pub any-none : (test : ℕ → Bool) (from place : ℕ) → from ≤ place → list_any test (range_with_len from (place - from)) ≡ false → test place ≡ false → list_any test (range_with_len from (place + 1 - from)) ≡ false
 any-none test from place low none e =
     let next : place + 1 - from ≡ suc (place - from) = omega arith in

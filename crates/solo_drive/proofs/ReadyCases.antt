@@ -1,4 +1,4 @@
--- What became of a command that went ahead, for each history that its cells stand for.
+-- The result of a command that went ahead, for each history that its cells stand for.
 use Rattle.std.proofs.Common.{◌≡◌, ℕ, ◌-◌, ◌*◌, ◌<◌, ◌≤◌, Bool, true, false, cond, List, ◌++◌, Option, Some, None, length, get_or, set, refl, sym, ap, ◌∙◌, subst}
 use Rattle.std.specs.Prelude.{◌==◌, ◌&&◌, not, is_some}
 use Rattle.std.proofs.Math.Bool.{and-false}
@@ -70,7 +70,7 @@ front-moved g acts a code cells out valid stand lent ahead e =
 
 -- ---- a write to an opened zone
 
--- where nothing is needed the rows of the zone decide
+-- if nothing is needed, the rows of the zone decide
 alone-on : (g : GeometryFields) (n : Limits) (rows : List (Row Status)) (all : Bool) (victim : Option ℕ) → verdict_on g n rows no_need all victim ≡ refused_or_done (first_holding rows)
 unfolding verdict_on
 alone-on g n rows all victim =
@@ -120,7 +120,7 @@ victim-none g acts a aim cells place w =
     let n = (book_at g acts 0).limits in
     ap (λ (need : Need). cond (wants_room g n (rows_at g cells place aim.deed) need) (evictable_in cells place) None) (need-none g acts a aim cells place w) ∙ alone-victim g cells n (rows_at g cells place aim.deed) place
 
--- it gives back what its zone uses no more
+-- it gives back what its zone no longer uses
 write-frees : (g : GeometryFields) (acts : List Act) (a : Act) (aim : Aim) (cells : List Cell) (place : ℕ) → IsWrite g acts a aim cells place → is_success (status g (answered g acts) a) ≡ true
     → given_up (cell_use (cell_in cells place)) (cell_use (after_deed g aim.deed a.payload (cell_in cells place))) ≡ freed_by g (answered g acts) a (command_of a)
 write-frees g acts a aim cells place w ok =
@@ -194,7 +194,7 @@ write-told g acts a aim cells place d new payload out r w given new-is r-is =
     let r-is' : r ≡ written_ready g aim a.payload (cell_in cells place) = r-is ∙ ap (written_ready g aim payload) there ∙ ap (λ (p : List ℕ). written_ready g aim p (cell_in cells place)) given in
     transport (λ i. IsMoved g a h cells (set cells place (sym new-is' i)) out out (sym r-is' i)) (write-moved g acts a aim cells place out w)
 
--- the lent cells have the zone of its aim
+-- the lent cells include the zone of its aim
 pub aim-lent : (g : GeometryFields) (acts : List Act) (a : Act) (aim : Aim) (cells : List Cell) → IsGeometry g → CellsStand g (answered g acts) cells → AreLent g a (zones_in cells) → aim_of g (command_of a) ≡ Some aim → aim.zone < g.zones
     → first_holding (front_rows g (command_of a)) ≡ None → IsAmong g (answered g acts) cells aim.zone
 aim-lent g acts a aim cells valid stand lent aims below passes = asking.among-of g a aim cells (book_at g acts 0) valid passes aims below (parts-of g acts a cells stand lent)

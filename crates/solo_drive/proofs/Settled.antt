@@ -108,7 +108,7 @@ recounted-less u v n less is =
     (one-recounted u.opened v.opened n.opened less.opened is.opened)
     (one-recounted u.window v.window n.windows less.window is.window)
 
--- a write gives no random write area
+-- a write doesn't give the zone a random write area
 write-window : (g : GeometryFields) (d : Deed) (payload : List ℕ) (c : Cell) → is_write d ≡ true → (after_deed g d payload c).window ≡ true → c.window ≡ true
 write-window g (deed.Write from blocks) payload c writes is = (and_parts c.window _ is).0
 write-window g (deed.Append blocks) payload c writes is = (and_parts c.window _ is).0
@@ -128,7 +128,7 @@ less-after g acts a aim valid len e ok is =
       window = λ t. sym before ∙ write-window g aim.deed a.payload (cell_at g h aim.zone) is.writes (after ∙ t);
     }
 
--- What is freed is all that the counts lose.
+-- What is freed is exactly what the counts lose.
 pub counts-settled : (g : GeometryFields) (acts : List Act) (a : Act) → IsGeometry g → length a.payload ≡ transfer_len g (command_of a) → goes_ahead g (opened_at g (answered g acts)) (command_of a) ≡ true
     → given_back (counts g (answered g acts)) (freed_by g (answered g acts) a (command_of a)) ≡ counts g (and_then g (answered g acts) a)
 counts-settled g acts a valid len ahead = by_aim (aim_of g (command_of a)) refl
@@ -187,7 +187,7 @@ events-stay g acts a ahead =
 
 -- ---- the book
 
--- with what is freed given back it is ready for the act
+-- once what is freed is given back, the book is ready for the act
 settled-ready : (g : GeometryFields) (a : Act) (r : Ready) (book : Book) (n : Limits) → IsGeometry g → length a.payload ≡ transfer_len g (command_of a) → BookStands g book → IsDue g (history_of g book) a r → n ≡ given_back book.limits r.freed → IsReady g a book (record book { limits = n })
 settled-ready g a r book n valid len stands due is =
     let h = history_of g book in

@@ -1,4 +1,4 @@
--- What a Send to all zones makes of the book and of the cells of all zones.
+-- The effect of a Send to all zones on the book and on the cells of all zones.
 use Rattle.std.proofs.Common.{◌≡◌, ℕ, Bool, true, false, cond, List, [], ◌∷◌, Option, Some, None, length, map, refl, sym, ap, ◌∙◌, subst, inl, inr}
 use Rattle.std.specs.Prelude.{unwrap_or}
 use Rattle.std.proofs.Math.Path.{transport}
@@ -43,7 +43,7 @@ use Rattle.solo_drive.proofs.AllZones.{IsSweep, sweep-of, AreAllLent, all-lent, 
 
 -- ---- what is known of the act
 
--- an act that asks for a deed to all zones, which no row of its front refuses, and the cells that are lent for it
+-- an act that asks for a deed to all zones and that no row of its front refuses, and the cells that are lent for it
 pub record Sweeps (g : GeometryFields) (a : Act) (d : Deed) (cells : List Cell) (book : Book) : Type 0 where
   pub valid : IsGeometry g
   pub parts : PartsStand g a cells book
@@ -71,7 +71,7 @@ status-sweep g a d cells book k =
     plain-status g h a k.command.aim k.passes ∙ ap (λ (rows : List (Row Status)). unwrap_or (first_holding rows) success) (k.command.rows cells closed)
     ∙ ap (λ (n : Limits). unwrap_or (sweep_refusal g cells n d) success) (sym (counts-are g a d cells book k))
 
--- what refuses is no success
+-- a refusing status isn't success
 row-fails : (b : Bool) (code : Status) → cond b (Some too_many_open_zones) None ≡ Some code → is_success code ≡ false
 row-fails true code e = let same : too_many_open_zones ≡ code = cc in ap is_success (sym same)
 row-fails false code e = absurd (cc e)
@@ -94,7 +94,7 @@ sweep-refused g a d cells cells' book book' out o code k s e =
 
 -- ---- done
 
--- it does to a zone what it asks for where the zone's state takes it
+-- it does its deed to a zone if the zone's state allows it
 deed-swept : (g : GeometryFields) (h : List Place) (a : Act) (d : Deed) (z : ℕ) → is_success (status g h a) ≡ true → aim_of g (command_of a) ≡ None → sweep_of (command_of a) ≡ Some d → zone_deed g h a z ≡ swept (Some d) (state g h z)
 deed-swept g h a d z ok aim asks =
     let alone = none_gives_way g h a (plain-wants g h a aim) in
@@ -124,7 +124,7 @@ cell-swept g acts a d z valid len none deeds = elim (cases_Bool (takes_all d (st
     h : List Place
     h = answered g acts
 
--- the cells, and the counts that they give
+-- the cells, and the counts that follow from them
 cells-swept : (g : GeometryFields) (a : Act) (d : Deed) (cells : List Cell) (book : Book) → Sweeps g a d cells book → length a.payload ≡ transfer_len g (command_of a) → is_success (status g (history_of g book) a) ≡ true
     → map (swept_cell g d) cells ≡ cells_at g (and_then g (history_of g book) a) (zones g)
 cells-swept g a d cells book k len ok =

@@ -1,4 +1,4 @@
--- What one act makes of the book and of lent cells.
+-- The effect of one act on the book and on lent cells.
 use Rattle.std.proofs.Common.{◌≡◌, ℕ, ◌+◌, Bool, true, false, List, [], ◌++◌, Some, None, map, drop, refl, sym, ap, ◌∙◌, subst}
 use Rattle.zns_types.specs.declared.fields.GeometryFields.{GeometryFields}
 use Rattle.zns_types.specs.Geometry.{IsGeometry, first, zone_of, offset_of}
@@ -40,7 +40,7 @@ use Rattle.solo_drive.proofs.Cells.{cell-idle}
 pub cells-idle : (g : GeometryFields) (h : List Place) (a : Act) (zs : List ℕ) → ((z : ℕ) → zone_deed g h a z ≡ None) → cells_at g h zs ≡ cells_at g (and_then g h a) zs
 cells-idle g h a zs idle = ap (λ (f : ℕ → Cell). map f zs) (λ i z. sym (cell-idle g h a z (idle z)) i)
 
--- log and marks stay too
+-- log and marks are unchanged too
 pub record IsSilent (g : GeometryFields) (h : List Place) (a : Act) : Type 0 where
   pub idle : (z : ℕ) → zone_deed g h a z ≡ None
   pub changed : changed g (and_then g h a) ≡ changed g h
@@ -85,7 +85,7 @@ refused-done g a code cells book out valid p is refused wide =
 
 -- ---- acts that do a deed to one zone
 
--- what is told of it
+-- what is reported of it
 pub record Told (g : GeometryFields) (h : List Place) (a : Act) (o : Outcome) (b b' : Book) : Type 0 where
   pub outcome : OutcomeStands g h a o
   pub log : b'.log ≡ changed g (and_then g h a)
@@ -100,7 +100,7 @@ reply-is : (g : GeometryFields) (h : List Place) (a : Act) (c : Cmd) → done.Is
 unfolding reply_bytes
 reply-is g h a c d = rw (d.success, d.command) refl
 
--- a command that gives nothing and leaves log and marks
+-- a command that returns nothing and leaves log and marks unchanged
 plain-told : (g : GeometryFields) (acts : List Act) (a : Act) (c : Cmd) (o : Outcome) (b b' : Book) → IsGeometry g → done.IsDone g (answered g acts) a c → OutcomeStands g (answered g acts) a o → o.len ≡ 0 → read_by g (answered g acts) c ≡ []
     → log_by g c (changed g (answered g acts)) ≡ changed g (answered g acts) → marks_by (cid_of a.sqe.bytes) c (marks_of (answered g acts)) ≡ marks_of (answered g acts)
     → b.log ≡ changed g (answered g acts) → b.events ≡ marks_of (answered g acts) → b' ≡ b → Told g (answered g acts) a o b b'
@@ -117,7 +117,7 @@ plain-told g acts a c o b b' valid d stands len nothing same_log same_marks log 
       len = len;
     }
 
--- what a deed that is sent tells
+-- what a deed that is sent reports
 abbrev IsPlain : GeometryFields → ℕ → ℕ → Book → Book → Outcome → Deed → Type 0
 IsPlain g zone at b b' o d = Tells g zone at b b' o d → (o ≡ plain_success) × (b' ≡ b)
 

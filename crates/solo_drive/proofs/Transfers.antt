@@ -1,4 +1,4 @@
--- How many bytes one command may move.
+-- The number of bytes that one command may move.
 use Rattle.std.proofs.Common.{◌≡◌, ℕ, ◌+◌, ◌*◌, ◌^◌, ◌<◌, ◌≤◌, Bool, true, false, cond, arith}
 use Rattle.std.specs.Prelude.{◌||◌, ◌==◌, IsTrue, min}
 use Rattle.std.proofs.Math.Nat.{pow-le-pow_right, min-le_left, le-min}
@@ -35,7 +35,7 @@ few_greatest g valid =
 pub few-bytes : (g : GeometryFields) (bytes : ℕ) → IsGeometry g → is_too_long g bytes ≡ false → bytes < 2 ^ 32
 few-bytes g bytes valid short = few bytes (greatest_transfer g) (2 ^ 32) (ltb-false (greatest_transfer g) bytes short) (few_greatest g valid)
 
--- a page at least
+-- at least a page
 pub page-fits : (g : GeometryFields) → is_too_long g 4096 ≡ false
 page-fits g =
     let some : 0 < block_len g = pow_pos g.block_exp in

@@ -1,6 +1,6 @@
--- Commands that move their bytes before the book of the drive is held: each Read, and each Write and Append whose first
--- block is in an opened zone. Such a command needs no resource, so that no other zone has to give way to it: Zoned
--- Namespace Command Set Specification 1.1, 2.1.1 (active and open resources).
+-- Commands that move their bytes before the book of the drive is held: each Read, and each Write and Append whose first block is in an
+-- opened zone. Such a command needs no resource, so no other zone has to give way to it: Zoned Namespace Command Set Specification 1.1,
+-- 2.1.1 (active and open resources).
 use Rattle.std.specs.Prelude.{◌≡◌, ℕ, ◌-◌, ◌==◌, Bool, true, false, not, ◌&&◌, nat_lt, List, [], ◌∷◌, ◌++◌, length, drop, Option, Some, None}
 use Rattle.std.specs.List.{list_any}
 use Rattle.zns_types.specs.declared.fields.GeometryFields.{GeometryFields}
@@ -40,7 +40,7 @@ goes_ahead g opened (cmd.Write nsid slba blocks) = is_in_opened g opened slba
 goes_ahead g opened (cmd.Append nsid zslba blocks) = is_in_opened g opened zslba
 goes_ahead g opened _ = false
 
--- one of these cells is of the zone, which is opened
+-- one of these cells is that of the zone, and the zone is opened
 abbrev pub opened_in : List Cell → ℕ → Bool
 opened_in cells z = list_any (λ c. (c.zone == z) && is_opened c.state) cells
 
@@ -48,13 +48,13 @@ opened_in cells z = list_any (λ c. (c.zone == z) && is_opened c.state) cells
 abbrev pub opened_at : GeometryFields → List Place → ℕ → Bool
 opened_at g h z = is_opened (state g h z)
 
--- the command of an act goes ahead, by lent cells
+-- whether the command of an act goes ahead, judged by lent cells
 abbrev pub GoesAhead : GeometryFields → Act → List Cell → Bool → Type 0
 GoesAhead g a cells b = goes_ahead g (opened_in cells) (command_of a) ≡ b
 
 -- ---- what is told of it
 
--- what a zone uses no more
+-- the resources that a zone no longer uses
 abbrev pub given_up : Need → Need → Need
 given_up before after = record {
   active = before.active && not after.active;
@@ -72,29 +72,29 @@ freed_by g h a (cmd.Write nsid slba blocks) = given_up_by g h a (zone_of g slba)
 freed_by g h a (cmd.Append nsid zslba blocks) = given_up_by g h a (zone_of g zslba)
 freed_by g h a _ = no_need
 
--- it answers no event request, and doesn't wait
+-- it answers no event request and doesn't wait
 abbrev pub outcome_from : Ready → Outcome
 outcome_from r = record { code = r.code; dw0 = r.dw0; dw1 = r.dw1; len = r.len; event = None; waits = false }
 
--- it is what becomes of an act after a history
+-- this is the result of the act after the history
 pub record ReadyStands (g : GeometryFields) (h : List Place) (a : Act) (r : Ready) : Type 0 where
   pub outcome : OutcomeStands g h a (outcome_from r)
   pub freed : r.freed ≡ freed_by g h a (command_of a)
 
--- the act goes ahead at this history, and this is what became of it
+-- the act goes ahead after this history, and this is its result
 pub record IsDue (g : GeometryFields) (h : List Place) (a : Act) (r : Ready) : Type 0 where
   pub ahead : goes_ahead g (opened_at g h) (command_of a) ≡ true
   pub stands : ReadyStands g h a r
 
 -- ---- its bytes have moved
 
--- the cells of a history are those of the history with the act, and the bytes that it reads stand in front
+-- the cells of a history have become those of the history with the act, and the bytes that it reads come first
 pub record IsMoved (g : GeometryFields) (a : Act) (h : List Place) (cells cells' : List Cell) (out out' : List ℕ) (r : Ready) : Type 0 where
   pub zones : cells' ≡ cells_at g (and_then g h a) (zones_in cells)
   pub read : out' ≡ reply_bytes g h a ++ drop r.len out
   pub due : IsDue g h a r
 
--- The book isn't held, so the history isn't known: for each history that the cells stand for it is so.
+-- The book isn't held, so the history isn't known: this holds for every history that the cells stand for.
 abbrev pub Moves : GeometryFields → Act → List Cell → List Cell → List ℕ → List ℕ → Ready → Type 0
 Moves g a cells cells' out out' r = (acts : List Act) → CellsStand g (answered g acts) cells → IsMoved g a (answered g acts) cells cells' out out' r
 
@@ -107,7 +107,7 @@ pub record IsReady (g : GeometryFields) (a : Act) (cells cells' : List Cell) (ou
   pub ahead : GoesAhead g a cells true
   pub moves : Moves g a cells cells' out out' r
 
--- nothing changed: the command is another one
+-- nothing changed: the command doesn't go ahead
 pub record Waits (g : GeometryFields) (a : Act) (cells cells' : List Cell) (out out' : List ℕ) : Type 0 where
   pub other : GoesAhead g a cells false
   pub same_cells : cells' ≡ cells
@@ -119,8 +119,7 @@ Readies g a cells cells' out out' None = Waits g a cells cells' out out'
 
 -- ---- it is settled
 
--- The book stands for the acts with this one, which is answered as the definitions say, and no other zone had to give
--- way.
+-- The book stands for the acts followed by this one, which is answered as the definitions say, and no other zone had to give way.
 pub record IsSettled (g : GeometryFields) (a : Act) (p : Posted) (book book' : Book) : Type 0 where
   pub kept : book' ≡ book_at g (book.journal.acts ++ a ∷ []) (book.journal.spare - 1)
   pub entries : p.entries.items ≡ posted g (history_of g book) a

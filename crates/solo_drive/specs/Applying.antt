@@ -1,4 +1,4 @@
--- What one act makes of the book and of lent cells.
+-- The effect of one act on the book and on lent cells.
 use Rattle.std.specs.Prelude.{◌≡◌, ◌≢◌, ℕ, ◌-◌, true, false, List, [], ◌∷◌, ◌++◌, length, drop, Option, Some, None, ◌⊎◌}
 use Rattle.zns_types.specs.declared.fields.GeometryFields.{GeometryFields}
 use Rattle.zone_cell.specs.Cells.{Cell}
@@ -23,7 +23,7 @@ use Rattle.solo_drive.specs.Parts.{cells_at, zones_in}
 abbrev pub history_of : GeometryFields → Book → List Place
 history_of g book = answered g book.journal.acts
 
--- the lent cells are of all zones, or no other zone has to give way
+-- the lent cells are those of all zones, or no other zone has to give way
 abbrev pub IsWideEnough : GeometryFields → Act → List Cell → Book → Type 0
 IsWideEnough g a cells book = (zones_in cells ≡ zones g) ⊎ (act_wants_room g (history_of g book) a ≡ false)
 
@@ -40,7 +40,7 @@ pub record IsDone (g : GeometryFields) (a : Act) (o : Outcome) (cells cells' : L
   pub read : out' ≡ reply_bytes g (history_of g book) a ++ drop o.len out
   pub wide : IsWideEnough g a cells book
 
--- nothing changed: another zone has to give way, and the lent cells aren't all
+-- nothing changed: another zone has to give way, and not all cells were lent
 pub record IsWidened (g : GeometryFields) (a : Act) (cells cells' : List Cell) (book book' : Book) (out out' : List ℕ) : Type 0 where
   pub same_cells : cells' ≡ cells
   pub same_book : book' ≡ book
@@ -54,7 +54,7 @@ Serves g a cells cells' book book' out out' None = IsWidened g a cells cells' bo
 
 -- ---- the act is applied
 
--- cells and book stand for the acts with this one, and it is answered as the definitions say
+-- cells and book stand for the acts followed by this one, which is answered as the definitions say
 pub record IsApplied (g : GeometryFields) (a : Act) (p : Posted) (cells cells' : List Cell) (book book' : Book) (out out' : List ℕ) : Type 0 where
   pub zones : cells' ≡ cells_at g (and_then g (history_of g book) a) (zones_in cells)
   pub kept : book' ≡ book_at g (book.journal.acts ++ a ∷ []) (book.journal.spare - 1)

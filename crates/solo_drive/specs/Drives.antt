@@ -1,4 +1,4 @@
--- What a drive is seen as.
+-- A drive as seen from outside.
 use Rattle.std.specs.Prelude.{◌≡◌, ℕ, ◌≤◌, List, length}
 use Rattle.zns_types.specs.declared.fields.GeometryFields.{GeometryFields}
 use Rattle.sqe_codec.specs.declared.sqe.Sqe.{Sqe}
@@ -12,7 +12,7 @@ use Rattle.zone_model.specs.Answers.{answered}
 use Rattle.zone_model.specs.Entries.{posted}
 use Rattle.zone_model.specs.Replies.{reply_bytes}
 
--- its geometry, the acts that it has served, and for how many more it has room
+-- its geometry, the acts that it has served, and the number of further acts it has room for
 pub record Drive : Type 0 where
   pub geometry : GeometryFields
   pub acts : List Act
@@ -22,7 +22,7 @@ pub record Drive : Type 0 where
 abbrev pub drive_of : GeometryFields → KeptActs → Drive
 drive_of g journal = record { geometry = g; acts = journal.acts; spare = journal.spare }
 
--- host data of the command's length, and room for what it asks for
+-- host data of the command's length, and enough room for what the command reads
 pub record HasLengths (g : GeometryFields) (a : Act) (room : ℕ) : Type 0 where
   pub payload : length a.payload ≡ transfer_len g (command_of a)
   pub reply : reply_len g (command_of a) ≤ room

@@ -1,4 +1,4 @@
--- What a deed that was done to a zone gives beside its status.
+-- What a completed deed to a zone reports besides its status.
 use Rattle.std.specs.Prelude.{◌≡◌, ℕ, ◌+◌}
 use Rattle.zns_types.specs.declared.fields.GeometryFields.{GeometryFields}
 use Rattle.zns_types.specs.Geometry.{first}
@@ -15,8 +15,8 @@ use Rattle.drive_book.specs.Outcomes.{plain_success}
 abbrev pub placed_outcome : ℕ → Outcome
 placed_outcome lba = record plain_success { dw0 = (block_dwords lba).dw0; dw1 = (block_dwords lba).dw1 }
 
--- An Append tells the first of its blocks, which stand from the pointer before it on. An excursion enters its zone in the
--- log, and answers the event request that the marks say. All else gives nothing.
+-- An Append returns the first of its blocks, which start at the pointer before it. An excursion enters its zone in the log, and answers the
+-- event request that the marks name. Any other deed reports nothing.
 abbrev pub Tells : GeometryFields → ℕ → ℕ → Book → Book → Outcome → Deed → Type 0
 Tells g zone pointer book book' o (deed.Append blocks) = (o ≡ placed_outcome (first g zone + pointer)) × (book' ≡ book)
 Tells g zone pointer book book' o (deed.Excursion kind) =

@@ -1,4 +1,4 @@
--- What a write ahead of the book makes of the cell of its zone, which needs no resource.
+-- The effect of a write before the book is held on the cell of its zone; it needs no resource.
 use Rattle.std.specs.Prelude.{ℕ, ◌+◌, List, Option, Some, None}
 use Rattle.zns_types.specs.declared.fields.GeometryFields.{GeometryFields}
 use Rattle.zns_types.specs.Geometry.{first}
@@ -19,15 +19,15 @@ use Rattle.solo_drive.specs.declared.ahead.Ready.{Ready}
 use Rattle.solo_drive.specs.Telling.{placed_outcome}
 use Rattle.solo_drive.specs.Ahead.{given_up}
 
--- what became of a command, and what its zone gives back
+-- the result of a command, with what its zone gives back
 abbrev pub ready_with : Outcome → Need → Ready
 ready_with o freed = record { code = o.code; dw0 = o.dw0; dw1 = o.dw1; len = o.len; freed = freed }
 
--- the first row by which the zone of a cell refuses a deed
+-- the first row with which the zone of a cell refuses a deed
 abbrev pub refusal_in : GeometryFields → Deed → Cell → Option Status
 refusal_in g d c = first_holding (rows_for g d (sight c))
 
--- an Append tells the first of its blocks
+-- an Append returns the first of its blocks
 abbrev pub told_by : GeometryFields → ℕ → ℕ → Deed → Outcome
 told_by g zone pointer (deed.Append blocks) = placed_outcome (first g zone + pointer)
 told_by g zone pointer _ = plain_success
@@ -37,7 +37,7 @@ abbrev pub cell_by : Option Status → Cell → Cell → Cell
 cell_by None new old = new
 cell_by (Some code) new old = old
 
--- what is told of the deed, unless it was refused
+-- what is reported of the deed, unless it was refused
 abbrev pub ready_by : Option Status → Ready → Ready
 ready_by None r = r
 ready_by (Some code) r = ready_with (refusal_with code) no_need

@@ -13,7 +13,7 @@ pub(crate) const NOTHING: Need = Need {
     window: false,
 };
 
-/// What became of a command whose bytes moved before the book was held.
+/// The result of a command whose bytes moved before the book was held.
 #[derive(Clone, Copy, Debug, PartialEq, Eq)]
 pub struct Ready {
     /// Its status.
@@ -25,7 +25,7 @@ pub struct Ready {
     /// The second dword of its result.
     pub dw1: u32,
 
-    /// How many bytes it read.
+    /// The number of bytes it read.
     pub len: u32,
 
     /// The resources that its zone gave back by becoming Full.
@@ -33,7 +33,7 @@ pub struct Ready {
 }
 
 impl Ready {
-    // With what its zone gave back.
+    // The result of `outcome`, with the resources that its zone gave back.
     pub(crate) fn of(outcome: Outcome, freed: Need) -> Ready
         ensures { result ≡ ready_with outcome freed }
     {
@@ -46,7 +46,7 @@ impl Ready {
         }
     }
 
-    // It answers no event request, and doesn't wait.
+    // It answers no event request and doesn't wait.
     pub(crate) fn outcome(self) -> Outcome
         ensures { result ≡ outcome_from self }
     {
@@ -61,7 +61,7 @@ impl Ready {
     }
 }
 
-// What a zone uses no more.
+// The resources that a zone no longer uses.
 pub(crate) fn given_up(before: Need, after: Need) -> Need
     ensures { result ≡ given_up before after }
 {

@@ -5,7 +5,7 @@ use sqe_codec::Cmd;
 use zns_types::Geometry;
 use zone_cell::ZoneCell;
 
-// Whether one of the cells is of a zone, which is opened.
+// Whether one of the cells is that of `zone`, and the zone is opened.
 fn is_opened(cells: &[ZoneCell], zone: u32) -> bool
     ensures { result ≡ opened_in cells.now zone }
 {

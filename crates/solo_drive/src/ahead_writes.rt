@@ -11,8 +11,8 @@ use zns_types::Geometry;
 use zone_cell::ZoneCell;
 use zone_room::use_of;
 
-// What a write that was done gives beside its status: an Append tells the first of its blocks,
-// which stand from the pointer before it on.
+// What a completed write reports besides its status: an Append returns the first of its blocks,
+// which start at the pointer before it.
 fn told(g: &Geometry, aim: Aim, pointer: u64) -> Outcome
     requires within { aim.zone < g.now.fields.zones }
     requires small { pointer ≤ 2 ^ 28 }
@@ -24,8 +24,8 @@ fn told(g: &Geometry, aim: Aim, pointer: u64) -> Outcome
     }
 }
 
-/// Does a write to the cell of an opened zone, which needs no resource, where no row of the zone
-/// refuses it.
+/// Writes to the cell of an opened zone, which needs no resource, unless a row of the zone refuses
+/// it.
 pub fn act_ahead(cell: &mut ZoneCell, g: &Geometry, aim: Aim, payload: &[u8]) -> Ready
     requires within { aim.zone < g.now.fields.zones }
     requires of { IsOf g.now.fields cell.old }

@@ -1,13 +1,13 @@
 use drive_book::Posted;
 use zns_io::Bytes;
 
-/// What became of a command on lent cells.
+/// The result of a command on lent cells.
 #[derive(Drop)]
 pub enum Applied {
     /// It was served.
     Done(Posted),
 
-    /// Another zone has to give way, and the lent cells aren't all: nothing changed. The host data
-    /// comes back.
+    /// Another zone has to give way, and not all cells were lent: nothing changed. The host data is
+    /// returned.
     Widen { payload: Bytes },
 }

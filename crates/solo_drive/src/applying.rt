@@ -12,8 +12,9 @@ use zns_types::Geometry;
 use zone_cell::ZoneCell;
 use zone_model::Act;
 
-/// Serves a command on lent cells, which are those of its reach, rising, or all, and on the book of
-/// their drive. What it reads stands at the start of `out`; the rest of `out` stays.
+/// Serves a command on lent cells and on the book of their drive. The cells are those of the
+/// command's reach, in ascending order, or all cells. What it reads goes to the start of `out`; the
+/// rest of `out` is unchanged.
 pub fn apply(
     cells: &mut [ZoneCell],
     book: &mut Book,

@@ -1,4 +1,4 @@
-//! A drive that serves one command at a time, and the same on lent zones.
+//! A drive that serves one command at a time, and the same for lent zones.
 #![tactic(auto)]
 
 mod ahead;

@@ -12,10 +12,10 @@ use zns_types::{Code, Geometry};
 // The bit of the asynchronous event configuration that enables notices of changed zones.
 const NOTICES: u32 = 1 << 27;
 
-// The bytes of the log page of changed zones.
+// The length of the changed zone log page in bytes.
 const PAGE: usize = 4096;
 
-// Fills `out` with the front of the page of changed zones, and with zeros after the page.
+// Fills `out` with the start of the page of changed zones, and with zeros after the page.
 fn fill_page(log: &ChangedLog, g: &Geometry, out: &mut [u8])
     requires zones { All (λ z. z < g.now.fields.zones) log.now }
     ensures { out.new ≡ first_bytes (length out.old) (changed_page g.now.fields log.now) }
@@ -27,9 +27,9 @@ fn fill_page(log: &ChangedLog, g: &Geometry, out: &mut [u8])
     out[..given].copy_from_slice(&page[..given]);
 }
 
-/// Serves a Get Log Page that no row refuses: so many bytes of the page of changed zones stand in
-/// front of `out`, and the rest of `out` stays. Unless `retain` asks to keep them, the log is
-/// emptied, and no event is masked or pending any more.
+/// Serves a Get Log Page that no row refuses: the first `bytes` bytes of the page of changed zones
+/// go to the start of `out`, and the rest of `out` is unchanged. Unless `retain` is set, the log is
+/// emptied, and no event stays masked or pending.
 pub fn read_log(book: &mut Book, g: &Geometry, bytes: u64, retain: bool, out: &mut [u8]) -> Outcome
     requires zones { All (λ z. z < g.now.fields.zones) book.old.log }
     requires few { bytes < 2 ^ 32 }
@@ -49,7 +49,7 @@ pub fn read_log(book: &mut Book, g: &Geometry, bytes: u64, retain: bool, out: &m
     }
 }
 
-/// Serves a Set Features of the asynchronous event configuration: bit 27 enables notices of changed
+/// Serves a Set Features of the asynchronous event configuration. Bit 27 enables notices of changed
 /// zones.
 pub fn set_feature(book: &mut Book, value: u32) -> Outcome
     ensures outcome { result ≡ plain_success }
@@ -70,8 +70,8 @@ pub fn get_feature(book: &Book) -> Outcome
     }
 }
 
-/// Serves an Asynchronous Event Request with this command identifier: it is told of an event that
-/// is pending, or waits for one, or is refused where four wait.
+/// Serves an Asynchronous Event Request with command identifier `cid`: it returns a pending event,
+/// waits for one, or is refused if four requests already wait.
 pub fn ask(book: &mut Book, cid: u16) -> Outcome
     ensures outcome { result ≡ request_outcome (told_to book.old.events) }
     ensures book { book.new ≡ after_ask cid book.old }

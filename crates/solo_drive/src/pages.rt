@@ -6,11 +6,11 @@ use drive_book::Outcome;
 use identify_zns::{IdErr, fill};
 use zns_types::Geometry;
 
-// The bytes of a page.
+// The length of a page in bytes.
 const PAGE: u32 = 4096;
 
-/// Serves an Identify that no row of its front refuses: there is a page of this structure (CNS) and
-/// command set (CSI). It stands at the start of `out`; the rest of `out` stays.
+/// Serves an Identify that none of its front rows refuses: there is a page for this structure (CNS)
+/// and command set (CSI). It goes to the start of `out`; the rest of `out` is unchanged.
 pub fn serve_identify(g: &Geometry, cns: u8, csi: u8, out: &mut [u8]) -> Outcome
     requires page { is_some (page_of cns csi g.now.fields) ≡ true }
     requires room { 4096 ≤ length out.old }

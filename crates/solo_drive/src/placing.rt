@@ -3,10 +3,10 @@ ghost use Rattle.solo_drive.specs.Telling.{placed_outcome};
 
 use drive_book::Outcome;
 
-// A block's number is told in two halves, the low one first.
+// A block's number is returned in two halves, the low one first.
 const HALF: u64 = 1 << 32;
 
-/// Success of an Append, which tells the first of its blocks.
+/// The success of an Append, which returns the first of its blocks.
 pub fn placed(lba: u64) -> Outcome
     ensures { result ≡ placed_outcome lba }
 {

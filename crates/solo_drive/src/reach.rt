@@ -6,18 +6,18 @@ ghost use Rattle.solo_drive.specs.Reaching.{zones_of};
 use sqe_codec::{Cmd, Sqe, read};
 use zns_types::Geometry;
 
-/// The zones that a command may read or change, without one that it closes for another.
+/// The zones that a command may read or change, apart from one that it closes to make room.
 #[derive(Clone, Copy, Debug, PartialEq, Eq)]
 pub enum Reach {
     Nothing,
 
-    /// From the first to the last.
+    /// From the first zone to the last, inclusive.
     Range(u32, u32),
 
     All,
 }
 
-// The zone of a block, where the namespace has the block.
+// The zone of a block, if the namespace has the block.
 fn one(g: &Geometry, lba: u64) -> Reach
     ensures { zones_of g.now.fields result ≡ zone_with g.now.fields lba }
 {
@@ -28,7 +28,7 @@ fn one(g: &Geometry, lba: u64) -> Reach
     Reach::Range(zone, zone)
 }
 
-// The zones of blocks, where the namespace has them all.
+// The zones of `blocks` blocks, if the namespace has them all.
 fn all_of(g: &Geometry, slba: u64, blocks: u32) -> Reach
     requires { 1 ≤ blocks }
     ensures { zones_of g.now.fields result ≡ zones_with g.now.fields slba blocks }
@@ -40,8 +40,8 @@ fn all_of(g: &Geometry, slba: u64, blocks: u32) -> Reach
     Reach::Range(g.zone_of(slba), g.zone_of(slba + count - 1))
 }
 
-/// The zones that the command of an entry on a queue may read or change. They are all exactly for a
-/// Zone Management Send with Select All and for a report.
+/// The zones that the command of a submission queue entry may read or change: `All` for exactly a
+/// Zone Management Send with Select All and a report.
 pub fn reach_of(g: &Geometry, queue: u16, sqe: &Sqe) -> Reach
     ensures { zones_of g.now.fields result
         ≡ reach_of g.now.fields (command (queue == 0) sqe.now.bytes) }

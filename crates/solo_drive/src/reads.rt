@@ -7,7 +7,7 @@ use drive_book::Outcome;
 use zns_types::{Code, Geometry};
 use zone_cell::ZoneCell;
 
-// Whether one of so many zones from a place on is Offline.
+// Whether one of `count` zones, starting at `from`, is Offline.
 fn any_offline(cells: &[ZoneCell], from: usize, count: usize) -> bool
     requires { from + count ≤ length cells.now }
     ensures { result ≡ has_offline cells.now from count }
@@ -20,7 +20,7 @@ fn any_offline(cells: &[ZoneCell], from: usize, count: usize) -> bool
     false
 }
 
-// Fills `out` with the bytes of blocks. The first cell is of zone `first`.
+// Fills `out` with the bytes of `blocks` blocks. The first cell is that of zone `first`.
 fn copy_blocks(cells: &[ZoneCell], g: &Geometry, first: u32, slba: u64, blocks: u32, out: &mut [u8])
     requires of { All (IsOf g.now.fields) cells.now }
     requires within { slba + blocks ≤ all_blocks g.now.fields }
@@ -36,8 +36,8 @@ fn copy_blocks(cells: &[ZoneCell], g: &Geometry, first: u32, slba: u64, blocks: 
     }
 }
 
-/// Serves a Read that no row of its front refuses, of lent cells, of which the first is of zone
-/// `first`.
+/// Serves a Read that none of its front rows refuses, from lent cells, the first of which is that
+/// of zone `first`.
 pub fn read_blocks(
     cells: &[ZoneCell],
     g: &Geometry,

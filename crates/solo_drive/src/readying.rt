@@ -19,10 +19,10 @@ use zns_io::Bytes;
 use zns_types::Geometry;
 use zone_cell::ZoneCell;
 
-/// Moves the bytes of a command before the book is held, on cells which are those of its reach,
-/// rising, or all: of a Read, and of a Write or an Append whose first block is in an opened zone of
-/// the cells. What it reads stands at the start of `out`; the rest of `out` stays. `settle` does
-/// what is left. For every other command nothing changes.
+/// Moves the bytes of a command before the book is held, if it is a Read, or a Write or an Append
+/// whose first block is in an opened zone of the cells; `settle` does the rest. For any other
+/// command nothing changes. The cells are those of the command's reach, in ascending order, or all
+/// cells. What it reads goes to the start of `out`; the rest of `out` is unchanged.
 pub fn ready(
     cells: &mut [ZoneCell],
     g: &Geometry,

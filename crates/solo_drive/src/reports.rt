@@ -9,8 +9,8 @@ use mgmt_receive::report;
 use zns_types::Geometry;
 use zone_cell::ZoneCell;
 
-/// Serves a Zone Management Receive that no row of its front refuses, of the cells of all zones.
-/// The report stands in the first `bytes` of `out`; the rest of `out` stays.
+/// Serves a Zone Management Receive that none of its front rows refuses, from the cells of all
+/// zones. The report goes to the first `bytes` bytes of `out`; the rest of `out` is unchanged.
 pub fn serve_receive(
     cells: &[ZoneCell],
     g: &Geometry,

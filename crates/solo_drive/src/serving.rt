@@ -23,8 +23,8 @@ use zone_cell::ZoneCell;
 use zone_model::Act;
 use zone_room::{Served, serve_deed};
 
-// What a deed that was done to a zone gives beside its status. An Append tells the first of its
-// blocks, which stand from the pointer before it on; an excursion may answer an event request.
+// What a completed deed to a zone reports besides its status. An Append returns the first of its
+// blocks, which start at the pointer before it; an excursion may answer an event request.
 fn outcome_of(book: &mut Book, g: &Geometry, aim: Aim, pointer: u64) -> Outcome
     requires within { aim.zone < g.now.fields.zones }
     requires small { pointer ≤ 2 ^ 28 }
@@ -40,7 +40,7 @@ fn outcome_of(book: &mut Book, g: &Geometry, aim: Aim, pointer: u64) -> Outcome
     }
 }
 
-// Serves a command for a deed to one zone, after the rows that no zone decides.
+// Serves a command whose deed goes to one zone, once the rows that no zone decides have passed.
 fn serve_aim(
     cells: &mut [ZoneCell],
     book: &mut Book,
@@ -68,8 +68,8 @@ fn serve_aim(
     }
 }
 
-// Serves a command that goes to no zone alone, nor to all to change them, after the rows that no
-// zone decides.
+// Serves a command that neither goes to a single zone nor changes all zones, once the rows that no
+// zone decides have passed.
 fn serve_plain(
     cells: &[ZoneCell],
     book: &mut Book,
@@ -109,8 +109,8 @@ fn serve_plain(
     }
 }
 
-/// Serves an act on lent cells and a book: all but its entries, its tally and its place in the
-/// journal. Where another zone has to give way that the cells don't have, nothing changes.
+/// Serves an act on lent cells and a book, except for its entries, its tally and its place in the
+/// journal. If a zone outside the cells would have to give way, nothing changes.
 pub fn serve(
     cells: &mut [ZoneCell],
     book: &mut Book,

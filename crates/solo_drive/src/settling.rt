@@ -14,9 +14,9 @@ use zns_types::Geometry;
 use zone_limits::give_back;
 use zone_model::Act;
 
-/// Does what is left of a command whose bytes have moved: gives back what its zone uses no more,
-/// writes the act down and makes its entries. After `ready` on cells of the same history both calls
-/// do what `apply` does.
+/// Finishes a command whose bytes have moved: gives back the resources that its zone no longer
+/// uses, records the act and makes its entries. After `ready` on cells of the same history, the two
+/// calls together do what `apply` does.
 pub fn settle(
     book: &mut Book,
     g: &Geometry,

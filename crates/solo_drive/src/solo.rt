@@ -22,8 +22,8 @@ use zone_descriptor::write;
 use zone_limits::Limits;
 use zone_model::Journal;
 
-/// A drive that serves one command at a time, with all of its zones in memory. It remembers the
-/// acts that it served, its journal, and what it answers follows from them.
+/// A drive that serves one command at a time, with all of its zones in memory. It keeps a journal
+/// of the acts it has served, and its answers follow from them.
 #[derive(Drop)]
 pub struct Solo {
     geometry: Geometry,
@@ -42,7 +42,7 @@ impl Model for Solo {
     ghost invariant = { λ s. DriveStands s.geometry.fields s.cells.items s.book };
 }
 
-/// What a drive consists of: its zones, rising, and what it keeps beside them.
+/// The parts of a drive: its zones, in ascending order, and what it keeps besides them.
 #[derive(Drop)]
 pub struct Parts {
     pub cells: Vec<ZoneCell>,
@@ -50,7 +50,7 @@ pub struct Parts {
     pub geometry: Geometry,
 }
 
-// Writes the descriptors of all zones, rising.
+// Writes the descriptors of all zones, in ascending order.
 fn write_descriptors(cells: &[ZoneCell], g: &Geometry, out: &mut [u8])
     requires all { length cells.now ≡ g.now.fields.zones }
     requires of { All (IsOf g.now.fields) cells.now }
@@ -63,7 +63,7 @@ fn write_descriptors(cells: &[ZoneCell], g: &Geometry, out: &mut [u8])
     }
 }
 
-// The cells of a drive to which nothing was done.
+// The cells of a new drive.
 fn fresh_cells(alloc: Global, g: &Geometry) -> Result<Vec<ZoneCell>, NoMemory>
     ensures { IfOk result (λ cells. cells.items ≡ map (fresh g.now.fields) (zones g.now.fields)) }
 {
@@ -76,7 +76,7 @@ fn fresh_cells(alloc: Global, g: &Geometry) -> Result<Vec<ZoneCell>, NoMemory>
 }
 
 impl Solo {
-    /// A drive to which nothing was done: every zone is Empty. It has room for `room` acts.
+    /// A new drive: every zone is Empty, and the journal has room for `room` acts.
     pub fn new(alloc: Global, g: Geometry, room: u32) -> Result<Solo, NoMemory>
         requires room { room ≤ 262144 }
         ensures { IfOk result (λ s. s ≡ record { geometry = g.fields; acts = []; spare = room }) }
@@ -90,10 +90,10 @@ impl Solo {
         })
     }
 
-    /// Serves one act: a submission entry on a queue, with its host data. The journal gains it, and
-    /// it is answered as the definitions say of it after the acts before, with no, one or two
-    /// completion entries. The bytes that it reads are put at the start of `out`; the rest of `out`
-    /// stays.
+    /// Serves one act: a submission queue entry from `queue`, with its host data. The act is added
+    /// to the journal, and is answered as the definitions say after the acts before it, with at
+    /// most two completion queue entries. The bytes that it reads go to the start of `out`; the
+    /// rest of `out` is unchanged.
     pub fn submit(&mut self, queue: u16, sqe: Sqe, payload: Bytes, out: &mut [u8]) -> Posted
         requires spare { 0 < self.old.spare }
         requires queue { queue < self.old.geometry.queues }
@@ -122,14 +122,14 @@ impl Solo {
         }
     }
 
-    /// How many more acts there is room for.
+    /// The number of further acts there is room for.
     pub fn spare(&self) -> u32
         ensures { result ≡ self.now.spare }
     {
         self.book.journal.spare()
     }
 
-    /// The acts that were served, the oldest first.
+    /// The acts served so far, the oldest first.
     pub fn journal(&self) -> &Journal
         ensures acts { result.now.acts ≡ self.now.acts }
         ensures spare { result.now.spare ≡ self.now.spare }
@@ -144,7 +144,7 @@ impl Solo {
         &self.geometry
     }
 
-    /// How many zones are active, are opened, and have a random write area.
+    /// The number of zones that are active, that are opened, and that have a random write area.
     pub fn limits(&self) -> &Limits
         ensures { result.now ≡ counts self.now.geometry (history self.now) }
     {
@@ -159,8 +159,8 @@ impl Solo {
         self.cells[zone as usize].pointer()
     }
 
-    /// Fills `out` with the descriptors of all zones, rising, of 64 bytes each (Zoned Namespace
-    /// Command Set Specification 1.1, 3.4.2.2.1).
+    /// Fills `out` with the descriptors of all zones, in ascending order, of 64 bytes each (Zoned
+    /// Namespace Command Set Specification 1.1, 3.4.2.2.1).
     pub fn descriptors(&self, out: &mut [u8])
         requires { length out.old ≡ 64 * self.now.geometry.zones }
         ensures { out.new ≡ bytes_of_all (descriptors self.now.geometry (history self.now)) }
@@ -168,7 +168,7 @@ impl Solo {
         write_descriptors(&self.cells, &self.geometry, out);
     }
 
-    /// Fills `out` with the 4,096 bytes of the Changed Zone List, and leaves the log as it is
+    /// Fills `out` with the 4,096 bytes of the Changed Zone List, and leaves the log unchanged
     /// (Zoned Namespace Command Set Specification 1.1, 4.1.4).
     pub fn page(&self, out: &mut [u8])
         requires { length out.old ≡ 4096 }
@@ -177,7 +177,7 @@ impl Solo {
         self.book.log.page(&self.geometry, out);
     }
 
-    /// What the drive consists of.
+    /// Takes the drive apart.
     pub fn into_parts(self) -> Parts
         ensures stand { DriveStands result.geometry.fields result.cells.items result.book }
         ensures drive { drive_of result.geometry.fields result.book.journal ≡ self }
@@ -194,7 +194,7 @@ impl Solo {
         }
     }
 
-    /// The drive that consists of these parts.
+    /// Puts a drive together from its parts.
     pub fn of_parts(parts: Parts) -> Solo
         requires { DriveStands parts.geometry.fields parts.cells.items parts.book }
         ensures { result ≡ drive_of parts.geometry.fields parts.book.journal }

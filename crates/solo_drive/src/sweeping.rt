@@ -8,7 +8,7 @@ use mgmt_send::sweep;
 use zns_types::Geometry;
 use zone_cell::ZoneCell;
 
-/// Serves a deed to every zone whose state takes it, on the cells of all zones.
+/// Serves a deed to every zone whose state allows it. `cells` are those of all zones.
 pub fn serve_sweep(cells: &mut [ZoneCell], book: &mut Book, g: &Geometry, deed: Deed) -> Outcome
     requires sent { IsTrue (goes_to_all deed) }
     requires zones { AreAllZones g.now.fields cells.old book.old.limits }

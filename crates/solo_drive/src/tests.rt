@@ -14,8 +14,8 @@ use zns_io::Bytes;
 use zns_types::{Code, Geometry, GeometryFields};
 use zone_cell::ZoneCell;
 
-// Zones of 48 blocks of 512 bytes. Three may be active and two opened, and one may have a random
-// write area of 8 blocks.
+// Zones of 48 blocks of 512 bytes. Three may be active, two opened, and one may have a random write
+// area of 8 blocks.
 const FIELDS: GeometryFields = GeometryFields {
     block_exp: 9,
     mdts: 0,
@@ -33,7 +33,7 @@ const FIELDS: GeometryFields = GeometryFields {
     depth: 64,
 };
 
-// What is tried in zone 1.
+// A command to try on zone 1.
 #[derive(Clone, Copy)]
 enum Tried {
     // Writes its first block.
@@ -74,7 +74,7 @@ fn command_of(tried: Tried) -> Cmd
     }
 }
 
-// What a drive is given.
+// The input to a drive.
 #[derive(Drop)]
 struct Request {
     queue: u16,
@@ -83,7 +83,7 @@ struct Request {
     out: Vec<u8>,
 }
 
-// Each byte of the host data is 11h. The room for what is read holds EEh.
+// Each byte of the host data is 11h. The output buffer is filled with EEh.
 fn request_for(alloc: Global, g: &Geometry, tried: Tried) -> Result<Request, Fail>
     ensures { IfOk result (λ r. HasLengths g.now.fields (act_of r.queue r.sqe r.payload)
         (length r.out.items)) }
@@ -103,7 +103,7 @@ fn request_for(alloc: Global, g: &Geometry, tried: Tried) -> Result<Request, Fai
     })
 }
 
-// Serves what is tried: what it posts, and the room for what it reads.
+// Serves `tried`, and returns what it posts and the output buffer.
 fn serve(alloc: Global, drive: &mut Solo, tried: Tried) -> Result<Option<(Posted, Vec<u8>)>, Fail> {
     let Request {
         queue,
@@ -118,7 +118,7 @@ fn serve(alloc: Global, drive: &mut Solo, tried: Tried) -> Result<Option<(Posted
     Ok(Some((posted, out)))
 }
 
-// The one entry, and the bytes that were read.
+// The only entry, and the bytes that were read.
 fn told(answer: &Option<(Posted, Vec<u8>)>) -> Option<(Cqe, &[u8])> {
     let (posted, out) = answer.as_ref()?;
     match posted.entries.as_slice() {
@@ -129,7 +129,7 @@ fn told(answer: &Option<(Posted, Vec<u8>)>) -> Option<(Cqe, &[u8])> {
     }
 }
 
-// Success on a queue, which took this many commands.
+// Success on queue `sqid`, with its head at `head`.
 fn success(sqid: u16, head: u16) -> Cqe {
     Cqe {
         head,
@@ -140,7 +140,7 @@ fn success(sqid: u16, head: u16) -> Cqe {
     }
 }
 
-// The active zones, and the pointer of a zone, if there is one.
+// The number of active zones, and the pointer of a zone, if there is one.
 fn counted(drive: &Solo, zone: u32) -> (u32, Option<u64>) {
     let pointer = if zone < drive.geometry().fields().zones {
         Some(drive.pointer(zone))
@@ -158,12 +158,12 @@ fn descriptors_of(alloc: Global, drive: &Solo) -> Result<Vec<u8>, Fail> {
     Ok(out)
 }
 
-// A drive to which nothing was done.
+// A new drive.
 fn fresh(alloc: Global) -> Result<Solo, Fail> {
     Ok(Solo::new(alloc, Geometry::new(FIELDS)?, 32)?)
 }
 
-// A drive serves, is taken apart and put together, and serves on.
+// A drive that is taken apart and put together again still serves.
 #[test]
 fn a_drive_of_parts_serves_on(rt: HostRuntime) -> Result<(), Fail> {
     let alloc = rt.alloc();
@@ -181,7 +181,7 @@ fn a_drive_of_parts_serves_on(rt: HostRuntime) -> Result<(), Fail> {
     Ok(())
 }
 
-// A zone that the controller finished is told of and is listed as changed.
+// A zone that the controller finished is reported by an event and listed as changed.
 #[test]
 fn a_finished_zone_is_shown(rt: HostRuntime) -> Result<(), Fail> {
     let alloc = rt.alloc();
@@ -198,8 +198,8 @@ fn a_finished_zone_is_shown(rt: HostRuntime) -> Result<(), Fail> {
     Ok(())
 }
 
-// Serves a command by both calls, where it goes ahead: what they make of cells, book and room is
-// what `apply` makes of them.
+// Serves a command with both calls, if it goes ahead: their effect on cells, book and output buffer
+// is that of `apply`.
 fn apply_ahead(
     cells: &mut [ZoneCell],
     book: &mut Book,
@@ -222,7 +222,8 @@ fn apply_ahead(
     }
 }
 
-// As `serve`, by both calls: the drive afterwards and the answer, where the command goes ahead.
+// Like `serve`, but with both calls: the drive afterwards and the answer, if the command goes
+// ahead.
 fn serve_ahead(
     alloc: Global,
     drive: Solo,
@@ -263,8 +264,8 @@ fn are_alike(alloc: Global, one: &Solo, other: &Solo) -> Result<bool, Fail> {
     Ok(same && counted(one, 1) == counted(other, 1))
 }
 
-// Serves what is tried on one drive by `submit`, and on another by both calls. The other drive
-// comes back where it went ahead and all that is told and shown is the same.
+// Serves `tried` on one drive with `submit`, and on another with both calls. Returns the other
+// drive if the command went ahead and both drives answer and show the same.
 fn same(alloc: Global, one: &mut Solo, other: Solo, tried: Tried) -> Result<Option<Solo>, Fail> {
     let plain = serve(alloc, one, tried)?;
     let (other, answer) = match serve_ahead(alloc, other, tried)? {
@@ -291,7 +292,7 @@ fn a_closed_zone_waits(rt: HostRuntime) -> Result<(), Fail> {
     Ok(())
 }
 
-// What goes ahead is answered as what doesn't: an Append to an opened zone, a Write behind the
+// What goes ahead is answered like what doesn't: an Append to an opened zone, a Write before the
 // pointer, which is refused, the Write that fills the zone, and a Read. Then the zone is Full.
 #[test]
 fn both_calls_are_one(rt: HostRuntime) -> Result<(), Fail> {

@@ -1,5 +1,5 @@
-/// A command, as the 64 bytes of a submission entry spell it on a kind of queue: the admin queue or
-/// an I/O queue.
+/// A command, as the 64 bytes of a submission queue entry spell it on a kind of queue: the admin
+/// queue or an I/O queue.
 ///
 /// `nsid` is the namespace, `slba` and `zslba` are logical block numbers of the namespace, from 0,
 /// and `blocks` is a count, of at least one. Lengths are in bytes. Bits that no field names are

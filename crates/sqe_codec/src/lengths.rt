@@ -7,7 +7,8 @@ use crate::reading::read;
 use crate::sqe::Sqe;
 use zns_types::Geometry;
 
-/// The bytes of host data that an entry brings: those of the blocks of a Write or an Append.
+/// The number of bytes of host data that an entry brings: those of the blocks of a Write or an
+/// Append.
 pub fn transfer_len(g: &Geometry, admin: bool, sqe: &Sqe) -> u32
     ensures exact { result
         ≡ spelled.transfer_len g.now.fields (spelled.command admin sqe.now.bytes) }
@@ -19,7 +20,7 @@ pub fn transfer_len(g: &Geometry, admin: bool, sqe: &Sqe) -> u32
     }
 }
 
-// The bytes that a command asks for.
+// The number of bytes that a command asks for.
 fn asked_len(g: &Geometry, cmd: Cmd) -> u64
     ensures { result ≡ spelled.asked_len g.now.fields cmd }
 {
@@ -31,7 +32,7 @@ fn asked_len(g: &Geometry, cmd: Cmd) -> u64
     }
 }
 
-/// The bytes that an entry asks for, and 0 where one command may not move as many.
+/// The number of bytes that an entry asks for, or 0 if one command may not move as many.
 pub fn reply_len(g: &Geometry, admin: bool, sqe: &Sqe) -> u32
     ensures exact { result ≡ spelled.reply_len g.now.fields (spelled.command admin sqe.now.bytes) }
     ensures within { result ≤ greatest_transfer g.now.fields }

@@ -64,7 +64,7 @@ fn read_io(bytes: &[u8]) -> Cmd
     }
 }
 
-// The bytes of a log page that a Get Log Page asks for.
+// The number of bytes of a log page that a Get Log Page asks for.
 fn log_bytes_at(bytes: &[u8]) -> u64
     requires { length bytes.now ≡ 64 }
     ensures { result ≡ log_bytes_of bytes.now }
@@ -128,7 +128,7 @@ pub fn read(sqe: &Sqe, admin: bool) -> Cmd
     }
 }
 
-/// The number that the host gave the entry.
+/// The command identifier that the host gave the entry.
 pub fn cid(sqe: &Sqe) -> u16
     ensures { result ≡ cid_of sqe.now.bytes }
 {

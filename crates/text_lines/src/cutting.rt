@@ -5,7 +5,8 @@ ghost use Rattle.text_lines.specs.Cuts.{first_line, unended, words_in};
 
 use std::alloc::{AllocError, Global};
 
-/// The line at the front of a text: the bytes up to and with the first line feed, or all of them.
+/// The line at the front of a text: the bytes up to and including the first line feed, or all of
+/// them.
 pub fn first_line(text: &[u8]) -> &[u8]
     ensures { result.now ≡ first_line text.now }
 {
@@ -25,7 +26,7 @@ pub fn unended(line: &[u8]) -> Option<&[u8]>
     }
 }
 
-/// The first words of a text, at most so many. A word is what stands between two spaces, and may be
+/// The first words of a text, at most `most`. A word is what stands between two spaces, and may be
 /// empty.
 pub fn words_in(alloc: Global, text: &[u8], most: usize) -> Result<Vec<&[u8]>, AllocError>
     ensures { IfOk result (λ words. map (λ word. word.now) words.items

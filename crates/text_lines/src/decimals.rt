@@ -8,8 +8,8 @@ fn begins_otherwise(word: &[u8]) -> bool
     matches!(word, [b'+', ..] | [b'0', _, ..])
 }
 
-/// The number that a word spells in decimal digits, where it does: without a sign, and without
-/// leading zeros, so that each number has one spelling.
+/// The number that a word spells in decimal digits, if it does: without a sign and without leading
+/// zeros, so that each number has one spelling.
 pub fn number_in(word: &[u8]) -> Option<u64>
     ensures { result ≡ number_in word.now }
 {

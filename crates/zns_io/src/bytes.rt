@@ -17,7 +17,7 @@ impl Model for Bytes {
 }
 
 impl Bytes {
-    /// No bytes. The allocator is only kept.
+    /// No bytes. The allocator is kept, and nothing is allocated.
     pub fn empty(alloc: Global) -> Bytes
         ensures { result ≡ [] }
     {
@@ -41,7 +41,7 @@ impl Bytes {
         items
     }
 
-    /// A copy.
+    /// A copy of `from`.
     pub fn of(alloc: Global, from: &[u8]) -> Result<Bytes, NoMemory>
         ensures { IfOk result (λ b. b ≡ from.now) }
     {
@@ -49,7 +49,7 @@ impl Bytes {
         Ok(Bytes { items })
     }
 
-    /// So many bytes of one value.
+    /// `len` bytes of the value `byte`.
     pub fn filled(alloc: Global, len: u32, byte: u8) -> Result<Bytes, NoMemory>
         ensures { IfOk result (λ b. b ≡ replicate len byte) }
     {

@@ -28,8 +28,8 @@ impl Model for MemSink {
 }
 
 impl MemSink {
-    /// A sink with room for so many bytes, of which a write takes at most `piece`. The calls whose
-    /// numbers, from 0, are in `failing` fail, and those where the room is used up.
+    /// A sink with room for `room` bytes, of which a write takes at most `piece`. The calls whose
+    /// numbers, from 0, are in `failing` fail, and so do those for which no room is left.
     pub fn new(alloc: Global, room: u32, piece: u32, failing: Vec<u32>) -> Result<MemSink, NoMemory>
         requires { 1 ≤ piece }
         ensures taken { IfOk result (λ sink. sink.taken ≡ []) }
@@ -43,7 +43,7 @@ impl MemSink {
         Ok(MemSink { sink, calls })
     }
 
-    /// The bytes taken.
+    /// The bytes that it took.
     pub fn bytes(&self) -> &[u8]
         ensures { result.now ≡ self.now.taken }
     {

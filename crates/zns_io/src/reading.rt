@@ -8,7 +8,7 @@ use crate::read_err::ReadErr;
 use crate::source::Source;
 use std::alloc::Global;
 
-// How many bytes one read may give.
+// The most bytes that one read may give.
 const PIECE: usize = 65536;
 
 /// Reads a source to its end, unless more than `limit` bytes come. At most `limit + 1` bytes are

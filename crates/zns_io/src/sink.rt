@@ -9,7 +9,7 @@ pub trait Sink {
     ghost use Rattle.std.specs.Prelude.{Result};
     ghost use Rattle.zns_io.specs.declared.failed.Failed.{Failed};
 
-    /// The bytes taken so far, where the sink tells them.
+    /// The bytes taken so far, if the sink tells them.
     ghost taken: { Self → Option (List ℕ) };
 
     /// How many calls failed, up to `u64::MAX`.
@@ -18,7 +18,7 @@ pub trait Sink {
     /// What a write of a piece may answer, and the sink that it may leave.
     ghost step: { Self → List ℕ → Result ℕ Failed → Self → Type 0 };
 
-    /// Takes some bytes from the front of `piece`, which has some, and says how many.
+    /// Takes some bytes from the front of `piece`, which isn't empty, and returns how many.
     fn write(&mut self, piece: &[u8]) -> Result<usize, Failed>
         requires { 0 < length piece.now }
         ensures step { step self.old piece.now result self.new }

@@ -10,7 +10,7 @@ pub trait Source {
     ghost use Rattle.std.specs.Prelude.{Result};
     ghost use Rattle.zns_io.specs.declared.failed.Failed.{Failed};
 
-    /// The bytes still to come, where the source tells them.
+    /// The bytes still to come, if the source tells them.
     ghost left: { Self → Option (List ℕ) };
 
     /// How many calls failed, up to `u64::MAX`.
@@ -19,7 +19,8 @@ pub trait Source {
     /// What a read into some room may answer, put there, and leave of the source.
     ghost step: { Self → List ℕ → Result ℕ Failed → List ℕ → Self → Type 0 };
 
-    /// Puts some bytes at the start of `out`, which has room, and says how many. 0 is the end.
+    /// Puts some bytes at the start of `out`, which isn't empty, and returns how many. 0 is the
+    /// end.
     fn read(&mut self, out: &mut [u8]) -> Result<usize, Failed>
         requires { 0 < length out.old }
         ensures step { step self.old out.old result out.new self.new }

@@ -29,7 +29,7 @@ impl Model for SureSink {
 }
 
 impl SureSink {
-    /// A sink with room for so many bytes, of which a write takes at most `piece`.
+    /// A sink with room for `room` bytes, of which a write takes at most `piece`.
     pub fn new(alloc: Global, room: u32, piece: u32) -> Result<SureSink, NoMemory>
         requires { 1 ≤ piece }
         ensures { IfOk result (λ sink.
@@ -51,7 +51,7 @@ impl SureSink {
         &self.kept
     }
 
-    /// How many more bytes are kept.
+    /// The number of further bytes that it keeps.
     pub(crate) fn room_left(&self) -> usize
         ensures left { result ≡ self.now.room - length self.now.kept }
         ensures within { length self.now.kept ≤ self.now.room }

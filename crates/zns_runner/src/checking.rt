@@ -22,33 +22,33 @@ use std::mem::forget;
 use zns_io::{Bytes, Source};
 use zone_model::{Act, Reply};
 
-// What is written where a result is that of its session.
+// The output if a result is that of its session.
 const SAME: &[u8] = b"same\n";
 
-// The bytes of a result before the queues of its order.
+// The length of a result's bytes before the queues of its order.
 const FRONT_LEN: usize = 12;
 
-// The bytes of a reply without its entries and what it read.
+// The length of a reply without its entries and the bytes that it read.
 const NUMBERS_LEN: usize = 6;
 
-// The bytes of an entry.
+// The length of an entry in bytes.
 const ENTRY_LEN: usize = 16;
 
-// The bytes of an order of so many acts: those before its queues, and two for each.
+// The length in bytes of an order of `acts` acts: the front, and two bytes for each queue.
 fn order_len(acts: u32) -> usize
     ensures { result ≡ 12 + 2 * acts }
 {
     FRONT_LEN + 2 * acts as usize
 }
 
-// The bytes of a reply.
+// The length of a reply in bytes.
 fn reply_len(reply: &Reply) -> usize
     ensures { result ≡ length (part_of reply.now) }
 {
     NUMBERS_LEN + ENTRY_LEN * reply.entries.len() + reply.read.as_slice().len()
 }
 
-// The difference of an input, by that of the bytes that are held.
+// A difference by its offset in the input, from its offset in the held bytes.
 fn differs(tail: &Tail, difference: Difference) -> CompareErr
     requires { difference.offset ≤ length tail.now.held }
     ensures { result ≡ CompareErr.Differs (tail.now.at + difference.offset) }
@@ -58,7 +58,7 @@ fn differs(tail: &Tail, difference: Difference) -> CompareErr
     }
 }
 
-// Compares bytes with what comes next of the input, and takes it.
+// Compares bytes with what comes next in the input, and takes it.
 fn take_bytes<S: Source>(
     alloc: Global,
     source: &mut S,
@@ -81,7 +81,7 @@ fn take_bytes<S: Source>(
     }
 }
 
-// Compares a reply with what comes next of the input, and takes it.
+// Compares a reply with what comes next in the input, and takes it.
 fn take_reply<S: Source>(
     alloc: Global,
     source: &mut S,
@@ -105,7 +105,7 @@ fn take_reply<S: Source>(
     }
 }
 
-// Serves acts in their order, and compares each reply with what comes next of the input.
+// Serves acts in order, and compares each reply with what comes next in the input.
 fn take_replies<S: Source>(
     alloc: Global,
     source: &mut S,
@@ -133,7 +133,7 @@ fn take_replies<S: Source>(
     Ok(())
 }
 
-// Compares what a drive is after its acts with what comes next of the input.
+// Compares the state of a drive after its acts with what comes next in the input.
 fn take_drive<S: Source>(
     alloc: Global,
     source: &mut S,
@@ -154,7 +154,8 @@ fn take_drive<S: Source>(
     take_bytes(alloc, source, tail, &page)
 }
 
-// Compares what a session gives in an order, without that order, with what comes next of the input.
+// Compares what a session gives in an order, without the order itself, with what comes next in the
+// input.
 fn take_session<S: Source>(
     alloc: Global,
     source: &mut S,
@@ -176,12 +177,12 @@ fn take_session<S: Source>(
     let mut drive = Solo::new(alloc, geometry, room)?;
     take_replies(alloc, source, tail, &mut drive, acts)?;
     let same = take_drive(alloc, source, tail, &drive);
-    // The program ends soon, and gives back all memory at once.
+    // The program ends soon, which frees all memory at once.
     forget(drive);
     same
 }
 
-// Compares what a session gives in an order, without that order, with the rest of the input.
+// Compares what a session gives in an order, without the order itself, with the rest of the input.
 fn take_rest<S: Source>(
     alloc: Global,
     source: &mut S,
@@ -208,7 +209,7 @@ fn take_rest<S: Source>(
     Ok(())
 }
 
-// The order of a session's acts that comes next of the input, which is taken.
+// Reads and takes the order of a session's acts that comes next in the input.
 fn take_order<S: Source>(
     alloc: Global,
     source: &mut S,
@@ -230,7 +231,7 @@ fn take_order<S: Source>(
     Ok(order)
 }
 
-// Holds the rest of the input against what a session gives in the order that comes next.
+// Checks the rest of the input against what a session gives in the order that comes next.
 fn check_rest<S: Source>(
     alloc: Global,
     source: &mut S,
@@ -249,8 +250,8 @@ fn check_rest<S: Source>(
     Ok(())
 }
 
-/// Whether what comes after the session that a source gives is its result in the order that it
-/// names: then that is said. Neither is held as a whole.
+/// Checks that a source gives a session and then its result in the order that the result names.
+/// Returns the text that says so. Neither is held as a whole.
 pub fn check_from<S: Source>(alloc: Global, source: &mut S) -> Result<Bytes, Status>
     ensures { GivesOutput the_task.Check (S.left source.old) (S.left source.new)
         (S.faults source.old) (S.faults source.new) result }
@@ -259,7 +260,7 @@ pub fn check_from<S: Source>(alloc: Global, source: &mut S) -> Result<Bytes, Sta
     match check_rest(alloc, source, &mut tail, session) {
         Ok(()) => Ok(Bytes::of(alloc, SAME)?),
         Err(status) => {
-            // The rest may still be too long, or unreadable, which comes first.
+            // The rest may still be too long or unreadable, and that is reported first.
             tail.drain(alloc, source)?;
             Err(status)
         }

@@ -1,6 +1,6 @@
 use zns_io::{NoMemory, ReadErr};
 
-/// Why a comparison with an input ended before all was compared.
+/// Why a comparison with an input ended early.
 #[derive(Clone, Copy, Debug, PartialEq, Eq)]
 pub enum CompareErr {
     /// Memory ran out.
@@ -12,7 +12,7 @@ pub enum CompareErr {
     /// The input is too long.
     Over,
 
-    /// The two differ first, or one of them ends, at an offset of the input.
+    /// The offset in the input at which the two first differ, or one of them ends.
     Differs { offset: u64 },
 }
 

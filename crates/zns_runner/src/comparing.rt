@@ -9,19 +9,19 @@ use byteorder::{ByteOrder, LittleEndian};
 use cqe_codec::{Cqe, write};
 use zone_model::Reply;
 
-/// The two differ first, or one of them ends, at an offset of the input.
+/// The offset in the input at which the two first differ, or one of them ends.
 #[derive(Clone, Copy, Debug, PartialEq, Eq)]
 pub struct Difference {
     pub offset: usize,
 }
 
-/// The offset after bytes that stand at an offset of the input.
+/// Compares `made` with the input from `at` on. Returns the offset after it.
 pub fn compare(input: &[u8], at: usize, made: &[u8]) -> Result<usize, Difference>
     requires { at ≤ length input.now }
     ensures same { IfOk result (StandAt input.now at made.now) }
     ensures differs { IfErr result (λ d. DiffersFrom input.now at made.now d.offset) }
 {
-    // Slices compare faster than one byte after the other, and most are the same.
+    // Comparing slices is faster than going byte by byte, and most are equal.
     if input[at..].starts_with(made) {
         return Ok(at + made.len());
     }
@@ -35,7 +35,7 @@ pub fn compare(input: &[u8], at: usize, made: &[u8]) -> Result<usize, Difference
     Ok(at)
 }
 
-// The same for a number of two bytes.
+// Compares a number of two bytes.
 fn compare_u16(input: &[u8], at: usize, number: u16) -> Result<usize, Difference>
     requires { at ≤ length input.now }
     ensures same { IfOk result (StandAt input.now at (little_bytes 2 number)) }
@@ -46,7 +46,7 @@ fn compare_u16(input: &[u8], at: usize, number: u16) -> Result<usize, Difference
     compare(input, at, &made)
 }
 
-// The same for a number of four bytes.
+// Compares a number of four bytes.
 fn compare_u32(input: &[u8], at: usize, number: u32) -> Result<usize, Difference>
     requires { at ≤ length input.now }
     ensures same { IfOk result (StandAt input.now at (little_bytes 4 number)) }
@@ -57,7 +57,7 @@ fn compare_u32(input: &[u8], at: usize, number: u32) -> Result<usize, Difference
     compare(input, at, &made)
 }
 
-// The same for entries, in 16 bytes each.
+// Compares entries, 16 bytes each.
 fn compare_entries(input: &[u8], at: usize, entries: &[Cqe]) -> Result<usize, Difference>
     requires { at ≤ length input.now }
     ensures same { IfOk result (StandAt input.now at (flat_map entry_bytes entries.now)) }
@@ -71,7 +71,7 @@ fn compare_entries(input: &[u8], at: usize, entries: &[Cqe]) -> Result<usize, Di
     Ok(at)
 }
 
-/// The same for a reply: its entries and what it read, each with its number before it.
+/// Compares a reply: its entries and the bytes that it read, each after their number.
 pub fn compare_reply(input: &[u8], at: usize, reply: &Reply) -> Result<usize, Difference>
     requires at { at ≤ length input.now }
     requires short { IsShort reply.now }

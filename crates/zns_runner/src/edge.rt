@@ -16,8 +16,8 @@ use std::sync::Wait;
 use std::thread::Threads;
 use zns_io::{NoMemory, Sink, Source};
 
-/// Does what the words ask for with what the source gives, and writes what it makes to the sink.
-/// Where memory ran out for the words, that is the status, and nothing is read or written.
+/// Does what the words ask for with what the source gives, and writes the output to the sink. If
+/// reading the words ran out of memory, returns that status, and nothing is read or written.
 pub fn answer<R: Threads + Wait + Sync, S: Source, K: Sink>(
     rt: &R,
     alloc: Global,
@@ -48,7 +48,7 @@ pub fn answer<R: Threads + Wait + Sync, S: Source, K: Sink>(
     }
 }
 
-/// How a run ends, by its status and by whether what was written was flushed.
+/// The status of a run once its output was flushed, or flushing failed.
 pub fn after_flush(status: Status, flushed: io::Result<()>) -> Status
     ensures { result ≡ status_after_flush status (is_ok flushed) }
 {

@@ -39,7 +39,7 @@ const COMMIT: u8 = 0x11;
 // The namespace of every command.
 const NSID: u32 = 1;
 
-// Where the numbers that are drawn have come.
+// The state of the number generator.
 #[derive(Drop)]
 struct Draws {
     state: u64,
@@ -68,7 +68,7 @@ fn made_geometry() -> Geometry
     Geometry { fields: DRIVE }
 }
 
-// A command to a zone, by its kind and a number that was drawn.
+// A command to a zone, by its kind and a drawn number.
 #[tactic(auto, unfolding(crate::specs::Generating::made_command))]
 fn made_command(kind: u64, zone: u64, number: u64) -> Cmd
     requires { zone < 16 }
@@ -122,8 +122,8 @@ fn made_send(action: u8, slba: u64, option: bool) -> Cmd
     }
 }
 
-// An act of a command that moves at most a block, by its number, its queue, and the byte that its
-// host data repeats.
+// An act whose command moves at most one block, by its number, its queue, and the byte that fills
+// its host data.
 fn act_of(alloc: Global, number: u32, queue: u16, cmd: &Cmd, byte: u8) -> Result<Act, NoMemory>
     requires some_queue { 1 ≤ queue }
     requires queue { queue < 4 }
@@ -143,7 +143,7 @@ fn act_of(alloc: Global, number: u32, queue: u16, cmd: &Cmd, byte: u8) -> Result
     })
 }
 
-// The act with this number, by the next four numbers that are drawn.
+// The act with this number, by the next four drawn numbers.
 #[tactic(auto, unfolding(crate::specs::Generating::made_act))]
 fn made_act(alloc: Global, number: u32, draws: &mut Draws) -> Result<Act, NoMemory>
     ensures act { IfOk result (λ a. a ≡ made_act number draws.old.state) }
@@ -158,7 +158,7 @@ fn made_act(alloc: Global, number: u32, draws: &mut Draws) -> Result<Act, NoMemo
     act_of(alloc, number, queue as u16, &cmd, (last % 256) as u8)
 }
 
-// So many acts, from a number on.
+// The first `count` acts that `number` determines.
 fn made_acts(alloc: Global, number: u64, count: u32) -> Result<Acts, NoMemory>
     ensures acts { IfOk result (λ l. l.acts ≡ made_acts count 0 number) }
     ensures one_block { IfOk result (λ l. All IsOneBlock l.acts) }
@@ -172,7 +172,7 @@ fn made_acts(alloc: Global, number: u64, count: u32) -> Result<Acts, NoMemory>
     Ok(acts)
 }
 
-/// The session of so many commands that a number makes.
+/// The session of `count` commands that `number` determines.
 #[tactic(auto, unfolding(crate::specs::Generating::made))]
 pub fn generate(alloc: Global, number: u64, count: u32) -> Result<Session, NoMemory>
     requires { count ≤ 262144 }

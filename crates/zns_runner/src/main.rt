@@ -1,7 +1,7 @@
-//! The program: it serves a session from standard input, in the order of its file or each queue by a
-//! thread of its own, and writes the result to standard output; it holds a result against the
-//! definitions, shows a session as text, runs the script of a host, or serves a session that a number
-//! makes and sums it up.
+//! The program. It serves a session from standard input, in the order of its file or each queue by
+//! a thread of its own, and writes the result to standard output. It also checks a result against
+//! the definitions, shows a session as text, runs the script of a host, or serves a session that a
+//! number determines and sums it up.
 #![tactic(auto)]
 
 mod checking;
@@ -34,8 +34,8 @@ use std::sync::Wait;
 use std::thread::Threads;
 use zns_io::{StdSink, StdSource};
 
-// Does what the words ask for with what a reader gives, flushes what was written, says how it ended,
-// and tells the exit status.
+// Does what the words ask for with what a reader gives, flushes the output, reports how the run
+// ended, and returns the exit status.
 fn run<T: Threads + Wait + Sync, R: Read + Drop>(
     rt: &(impl Env + AllocGlobal + Print + Eprint),
     threads: &T,

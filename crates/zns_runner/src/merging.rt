@@ -10,7 +10,7 @@ use std::marker::Model;
 use zns_io::NoMemory;
 use zone_model::Act;
 
-// The acts of a queue that are still to come, in their order.
+// The acts of a queue that remain, in order.
 #[derive(Drop)]
 struct Queue {
     acts: VecDeque<Act>,
@@ -35,7 +35,7 @@ impl Queue {
         }
     }
 
-    // One act more at the end.
+    // Appends an act.
     fn push(&mut self, act: Act) -> Result<(), NoMemory>
         ensures { OnOk result (self.new ≡ self.old ++ act ∷ []) }
     {
@@ -43,7 +43,7 @@ impl Queue {
         Ok(())
     }
 
-    // The first act, which is taken.
+    // Takes the first act.
     fn take(&mut self) -> Act
         requires { 0 < length self.old }
         ensures { self.old ≡ result ∷ self.new }
@@ -55,7 +55,7 @@ impl Queue {
     }
 }
 
-// So many queues without acts.
+// `count` queues without acts.
 fn no_acts(alloc: Global, count: u16) -> Result<Vec<Queue>, NoMemory>
     ensures { IfOk result (λ queues. AreQueues count [] queues.items) }
 {
@@ -66,7 +66,7 @@ fn no_acts(alloc: Global, count: u16) -> Result<Vec<Queue>, NoMemory>
     Ok(queues)
 }
 
-// The queues of acts.
+// Sorts acts into `count` queues.
 fn queues_of(alloc: Global, count: u16, acts: Vec<Act>) -> Result<Vec<Queue>, NoMemory>
     requires { All (λ (a : Act). a.queue < count) acts.items }
     ensures { IfOk result (λ queues. AreQueues count acts.items queues.items) }
@@ -79,7 +79,7 @@ fn queues_of(alloc: Global, count: u16, acts: Vec<Act>) -> Result<Vec<Queue>, No
     Ok(queues)
 }
 
-// Whether an order is the one in which acts stand.
+// Whether an order is the acts' own order.
 fn is_own(acts: &[Act], order: &Order) -> bool
     ensures { result ≡ true → order.now ≡ own_order acts.now }
 {
@@ -94,7 +94,7 @@ fn is_own(acts: &[Act], order: &Order) -> bool
     true
 }
 
-/// The acts of so many queues in an order: at each place the next act of the queue that it names.
+/// The acts of `count` queues in an order: at each place, the next act of the queue named there.
 pub fn in_order(
     alloc: Global,
     count: u16,

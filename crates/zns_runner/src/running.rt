@@ -10,8 +10,8 @@ use std::sync::Wait;
 use std::thread::Threads;
 use zns_io::{Bytes, NoMemory};
 
-/// What a session gives in the order that its queues took side by side, each served by a worker of
-/// its own: the whole result file.
+/// The whole result file of a session, in the order in which its queues were served side by side,
+/// each by a worker of its own.
 pub fn run<R: Threads + Wait + Sync, G: Gate + Sync>(
     rt: &R,
     alloc: Global,
@@ -22,7 +22,7 @@ pub fn run<R: Threads + Wait + Sync, G: Gate + Sync>(
 {
     let outcome = run_session(rt, alloc, session, gate)?;
     let result = result_of(alloc, &outcome.drive, &outcome.replies);
-    // The program ends soon, and gives back all memory at once.
+    // The program ends soon, which frees all memory at once.
     forget(outcome);
     result
 }

@@ -38,7 +38,7 @@ pub fn serve_act(alloc: Global, drive: &mut Solo, act: Act) -> Result<Reply, NoM
     })
 }
 
-// Makes room for so many bytes.
+// Grows `room` to at least `len` bytes.
 fn make_room(room: &mut Vec<u8>, len: usize) -> Result<(), NoMemory>
     ensures { OnOk result (len ≤ length room.new.items) }
 {
@@ -48,8 +48,8 @@ fn make_room(room: &mut Vec<u8>, len: usize) -> Result<(), NoMemory>
     Ok(())
 }
 
-// Serves one act, and puts the reply to it at the end of a result. What it reads comes into the
-// room first, which is used again for each act.
+// Serves one act, and appends its reply to a result. What it reads goes into `room` first, which is
+// reused for each act.
 fn serve_into(
     drive: &mut Solo,
     act: Act,
@@ -74,7 +74,7 @@ fn serve_into(
     file.put(posted.entries.as_slice(), &room[..posted.len as usize])
 }
 
-// Serves acts in their order, and puts the replies to them at the end of a result.
+// Serves acts in order, and appends their replies to a result.
 fn serve_acts(
     alloc: Global,
     drive: &mut Solo,
@@ -117,7 +117,7 @@ pub fn page_of(alloc: Global, drive: &Solo) -> Result<Vec<u8>, NoMemory>
     Ok(out)
 }
 
-// The result file of a drive that served acts, by the replies to them.
+// The result file of a drive that served acts, by their replies.
 pub(crate) fn result_of(alloc: Global, drive: &Solo, replies: &Replies) -> Result<Bytes, NoMemory>
     requires { AreReplies drive.now.geometry drive.now.acts replies.now.replies }
     ensures { IfOk result
@@ -128,7 +128,7 @@ pub(crate) fn result_of(alloc: Global, drive: &Solo, replies: &Replies) -> Resul
     write_result(alloc, drive.journal(), replies, &descriptors, &page)
 }
 
-/// What a session gives in the order of its file: the whole result file.
+/// The whole result file of a session, served in the order of its file.
 pub fn serve(alloc: Global, session: Session) -> Result<Bytes, NoMemory>
     ensures { IfOk result (IsOwnResult session) }
 {

@@ -30,7 +30,7 @@ fn name_of(cmd: &Cmd) -> &'static str
     }
 }
 
-// The line of a drive's numbers.
+// Appends the line of a drive's numbers.
 fn put_drive(text: &mut String, g: &Geometry, acts: u32) -> Result<(), NoMemory>
     ensures { OnOk result (string_bytes text.new
         ≡ string_bytes text.old ++ drive_line g.now.fields acts) }
@@ -57,7 +57,7 @@ fn put_drive(text: &mut String, g: &Geometry, acts: u32) -> Result<(), NoMemory>
     Ok(())
 }
 
-// The line of an act, by its number from 0.
+// Appends the line of an act, by its number from 0.
 fn put_act(alloc: Global, text: &mut String, number: u32, act: &Act) -> Result<(), NoMemory>
     ensures { OnOk result (string_bytes text.new
         ≡ string_bytes text.old ++ act_line number act.now) }
@@ -73,7 +73,7 @@ fn put_act(alloc: Global, text: &mut String, number: u32, act: &Act) -> Result<(
     Ok(())
 }
 
-// The lines of acts.
+// Appends the lines of acts.
 fn put_acts(alloc: Global, text: &mut String, acts: &Acts) -> Result<(), NoMemory>
     ensures { OnOk result (string_bytes text.new
         ≡ string_bytes text.old ++ act_lines 0 acts.now.acts) }

@@ -16,7 +16,8 @@ use std::sync::Wait;
 use std::thread::Threads;
 use zns_io::{Bytes, Sink, Source};
 
-// The result of the session that a source gives, in the order that its queues took side by side.
+// The result of the session that a source gives, in the order in which its queues were served side
+// by side.
 fn run_from<R: Threads + Wait + Sync, S: Source, G: Gate + Sync>(
     rt: &R,
     alloc: Global,
@@ -30,13 +31,13 @@ fn run_from<R: Threads + Wait + Sync, S: Source, G: Gate + Sync>(
     Ok(run(rt, alloc, session, gate)?)
 }
 
-/// Does what the words ask for with what the source gives, and writes what it makes to the sink. The
+/// Does what the words ask for with what the source gives, and writes the output to the sink. The
 /// whole output is made before its first byte is written.
 ///
 /// With `run`, each queue of the session is served by a worker of its own, however their threads
-/// interleave. Under Ok the output then names one order of the commands, each once and each queue's
-/// in its own order, and is what a drive that serves one command at a time gives in that order; what
-/// is kept is kept there (`Means`: `Finishes`, `IsRan`).
+/// interleave. If the status is Ok, the output names one order of the commands, with each command
+/// once and each queue's in its own order. It is what a drive that serves one command at a time
+/// gives in that order, and what is kept is kept there (`Means`: `Finishes`, `IsRan`).
 pub fn top<R: Threads + Wait + Sync, S: Source, K: Sink, G: Gate + Sync>(
     rt: &R,
     alloc: Global,

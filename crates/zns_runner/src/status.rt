@@ -21,20 +21,20 @@ pub enum Status {
     /// The words mean nothing.
     Usage,
 
-    /// The input could not be read.
+    /// The input couldn't be read.
     ReadFault,
 
-    /// The output could not be written.
+    /// The output couldn't be written.
     WriteFault,
 
-    /// The input is not what the words ask for, at an offset from its first byte.
+    /// The input isn't what the words ask for, at an offset from its first byte.
     BadFile { reason: Reason, offset: u64 },
 
     /// A number of the input, its length, or the number of commands to make is over its limit.
     TooLarge { which: Which, number: u64 },
 
-    /// A result isn't that of its session. The two differ first, or one of them ends, at an offset
-    /// from the input's first byte.
+    /// A result isn't that of its session. `offset`, from the input's first byte, is where the two
+    /// first differ or one of them ends.
     Differs { offset: u64 },
 }
 
@@ -96,7 +96,7 @@ impl From<CompareErr> for Status {
 }
 
 impl Status {
-    /// The number with which the program ends.
+    /// The exit status of the program.
     pub fn number(&self) -> u8
         ensures { result ≡ number_of self.now }
     {
@@ -112,7 +112,7 @@ impl Status {
         }
     }
 
-    /// The line that is said of it on standard error; empty where all is well.
+    /// The line for standard error. It is empty if all is well.
     pub fn line(&self, alloc: Global) -> Result<Bytes, NoMemory>
         ensures { IfOk result (λ line. line ≡ line_of self.now) }
     {

@@ -15,7 +15,7 @@ use session_file::{Feed, FeedErr, First, Given, Session, begin_from, read, read_
 use std::alloc::Global;
 use zns_io::{Bytes, NoMemory, Source, read_all};
 
-// Bytes, and others after them.
+// Joins `front` and `rest`.
 fn joined(front: Bytes, rest: &[u8]) -> Result<Bytes, NoMemory>
     ensures { IfOk result (λ b. b ≡ front ++ rest.now) }
 {
@@ -24,7 +24,7 @@ fn joined(front: Bytes, rest: &[u8]) -> Result<Bytes, NoMemory>
     Ok(Bytes::from_vec(all))
 }
 
-/// The input whose front came already: this front, and all that a source still gives.
+/// The whole input: `front`, which was read already, and all that the source still gives.
 pub fn input_after<S: Source>(alloc: Global, front: Bytes, source: &mut S) -> Result<Bytes, Status>
     requires { length front ≤ 2 ^ 29 }
     ensures input { (t : Task) (first : Option (List ℕ)) → ¬ (MakesSession t)
@@ -38,7 +38,7 @@ pub fn input_after<S: Source>(alloc: Global, front: Bytes, source: &mut S) -> Re
     Ok(joined(front, rest.as_slice())?)
 }
 
-// The session that an input is whose front came already.
+// The session that an input spells whose front was read already.
 fn session_after<S: Source>(alloc: Global, front: Bytes, source: &mut S) -> Result<Session, Status>
     requires { length front ≤ 2 ^ 29 }
     ensures { (first : Option (List ℕ)) → Consumes first (S.left source.old) front
@@ -49,7 +49,7 @@ fn session_after<S: Source>(alloc: Global, front: Bytes, source: &mut S) -> Resu
     Ok(read(alloc, input.as_slice())?)
 }
 
-/// The session that a source gives. The input isn't held as a whole, unless it's no session.
+/// The session that a source gives. The whole input isn't held, unless it's not a session.
 pub fn session_from<S: Source>(alloc: Global, source: &mut S) -> Result<Session, Status>
     ensures { GivesSession (S.left source.old) (S.left source.new)
         (S.faults source.old) (S.faults source.new) result }
@@ -80,7 +80,7 @@ pub fn text_from<S: Source>(alloc: Global, source: &mut S) -> Result<Bytes, Stat
     Ok(show(alloc, &session)?)
 }
 
-// The session that an input begins with whose front came already, and the rest of the input.
+// The session that an input begins with whose front was read already, and the rest of the input.
 fn begun_after<S: Source>(
     alloc: Global,
     front: Bytes,

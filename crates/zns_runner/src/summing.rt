@@ -14,7 +14,7 @@ use zns_io::{Bytes, NoMemory};
 use zns_types::Code;
 use zone_model::{Act, Reply};
 
-/// What became of the commands of a session, and what the drive then holds.
+/// What became of a session's commands, and what the drive then holds.
 #[derive(Clone, Copy)]
 pub struct Totals {
     pub commands: u32,
@@ -28,13 +28,13 @@ pub struct Totals {
     /// Active zones.
     pub active: u32,
 
-    /// Opened zones.
+    /// Open zones.
     pub opened: u32,
 
     /// Zones that have a random write area.
     pub windows: u32,
 
-    /// The write pointers of all zones together, each in blocks from the start of its zone.
+    /// The sum of all write pointers, each in blocks from the start of its zone.
     pub pointers: u64,
 }
 
@@ -45,7 +45,8 @@ struct Counts {
     refused: u32,
 }
 
-// Whether an act that was answered so took. An event request that waits has no entry yet; it took.
+// Whether the act with this reply succeeded. An event request that waits has no entry yet and
+// counts as a success.
 fn took(reply: &Reply) -> bool
     ensures { TellsSuccess reply.now result }
 {
@@ -55,7 +56,7 @@ fn took(reply: &Reply) -> bool
     }
 }
 
-// Serves acts in their order, and counts what becomes of them.
+// Serves acts in order, and counts the successes and refusals.
 fn serve_acts(alloc: Global, drive: &mut Solo, acts: Vec<Act>) -> Result<Counts, NoMemory>
     requires fresh { drive.old.acts ≡ [] }
     requires room { drive.old.spare ≡ length acts.items }
@@ -78,7 +79,7 @@ fn serve_acts(alloc: Global, drive: &mut Solo, acts: Vec<Act>) -> Result<Counts,
     Ok(Counts { success, refused })
 }
 
-// The write pointers of all zones together.
+// The sum of all write pointers.
 fn pointers_of(drive: &Solo) -> u64
     ensures { result ≡ pointers drive.now.geometry (history drive.now) }
 {
@@ -89,7 +90,7 @@ fn pointers_of(drive: &Solo) -> u64
     sum
 }
 
-// What became of all commands of a session.
+// Serves a session and sums it up.
 fn sum_up(alloc: Global, session: Session) -> Result<Totals, NoMemory>
     ensures { IfOk result
         (λ t. t ≡ totals session.geometry (answered session.geometry session.acts)) }
@@ -110,7 +111,7 @@ fn sum_up(alloc: Global, session: Session) -> Result<Totals, NoMemory>
     })
 }
 
-// The lines of the numbers.
+// The text of the totals, a line for each.
 fn lines_of(alloc: Global, totals: &Totals) -> Result<Bytes, NoMemory>
     ensures { IfOk result (λ b. b ≡ lines_of totals.now) }
 {

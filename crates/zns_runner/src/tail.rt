@@ -9,10 +9,10 @@ use std::alloc::Global;
 use std::marker::Model;
 use zns_io::{ReadErr, Source};
 
-// No more bytes are read of an input: one more than the longest has.
+// The most bytes that are read of an input: one more than the longest input has.
 const MOST_READ: u64 = GREATEST_INPUT + 1;
 
-/// An input whose front was taken: the bytes that were read after it, and how many the front has.
+/// An input whose front was taken: the bytes read after it, and how many bytes were taken.
 #[derive(Drop)]
 pub struct Tail {
     feed: Feed,
@@ -31,7 +31,7 @@ impl Model for Tail {
 }
 
 impl Tail {
-    /// These bytes were read after a front of so many.
+    /// The bytes in `feed` were read after a front of `at` bytes.
     pub fn new(feed: Feed, at: u64) -> Tail
         requires { at + length feed ≤ 2 ^ 29 + 1 }
         ensures { result ≡ record { held = feed; at = at } }
@@ -39,7 +39,7 @@ impl Tail {
         Tail { feed, at }
     }
 
-    /// How many bytes were taken.
+    /// The number of bytes that were taken.
     pub fn at(&self) -> u64
         ensures at { result ≡ self.now.at }
         ensures few { self.now.at + length self.now.held ≤ 2 ^ 29 + 1 }
@@ -47,14 +47,14 @@ impl Tail {
         self.at
     }
 
-    /// The bytes that were read and not taken.
+    /// The bytes that were read and not taken yet.
     pub fn held(&self) -> &[u8]
         ensures { result.now ≡ self.now.held }
     {
         self.feed.rest()
     }
 
-    /// Takes so many bytes.
+    /// Takes the first `count` bytes.
     pub fn skip(&mut self, count: usize)
         requires { count ≤ length self.old.held }
         ensures held { self.new.held ≡ drop count self.old.held }
@@ -64,7 +64,7 @@ impl Tail {
         self.at += count as u64;
     }
 
-    /// Reads on until so many bytes are held, or the input ends.
+    /// Reads until `least` bytes are held or the input ends.
     pub fn fill<S: Source>(
         &mut self,
         alloc: Global,
@@ -91,7 +91,7 @@ impl Tail {
         }
     }
 
-    /// Takes all that is left, to the end of the input.
+    /// Takes everything up to the end of the input.
     pub fn drain<S: Source>(&mut self, alloc: Global, source: &mut S) -> Result<(), ReadErr>
         ensures stays { StaysIn (S.left source.old) (S.left source.new) self.old self.new }
         ensures end { OnOk result (IsAtEnd (S.left source.new)) }

@@ -5,29 +5,29 @@ ghost use Rattle.zns_runner.specs.Tasks.{AskFor, IsPlain, gen_of, task_named, if
 
 use crate::word::Word;
 
-/// What the program is asked for.
+/// What the program is asked to do.
 #[derive(Clone, Copy, Debug, PartialEq, Eq)]
 pub enum Task {
-    /// To serve a session in the order of its file.
+    /// Serve a session in the order of its file.
     One,
 
-    /// To serve each queue of a session by a worker of its own, side by side.
+    /// Serve each queue of a session with a worker of its own, side by side.
     Run,
 
-    /// To hold a result of a session against the definitions, in the order that it names.
+    /// Check a result of a session against the definitions, in the order that it names.
     Check,
 
-    /// To show a session as text.
+    /// Show a session as text.
     Show,
 
-    /// To run the script of a host.
+    /// Run the script of a host.
     Host,
 
-    /// To serve the session of so many commands that a number makes, and sum it up.
+    /// Serve the session of `count` commands that `number` determines, and sum it up.
     Gen { number: u64, count: u64 },
 }
 
-// The task to make a session, by its two words where they are numbers.
+// The task to make a session, if both words are numbers.
 fn gen_of(number: &Word, count: &Word) -> Option<Task>
     ensures { result ≡ gen_of (number_in number.now) (number_in count.now) }
 {
@@ -36,7 +36,7 @@ fn gen_of(number: &Word, count: &Word) -> Option<Task>
     Some(Task::Gen { number, count })
 }
 
-/// The task that the words name.
+/// The task that the words name, if they name one.
 pub fn task_of(words: &[Word]) -> Option<Task>
     ensures named { result ≡ task_named words.now }
     ensures some { IfSome result (AskFor words.now) }

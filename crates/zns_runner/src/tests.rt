@@ -26,20 +26,20 @@ use std::alloc::Global;
 use std::test::Fail;
 use zns_io::{Bytes, MemSink, MemSource, Sink, Source, SureSink, SureSource, read_all};
 
-// Puts other bytes at a place of a file.
+// Puts `new` at a place of a file.
 fn put(file: &mut [u8], place: usize, new: &[u8]) {
     for (old, new) in file.iter_mut().skip(place).zip(new) {
         *old = *new;
     }
 }
 
-// So many bytes from a place, or none where there are fewer.
+// `len` bytes from `at` on, or none if there are fewer.
 fn part(bytes: &[u8], at: usize, len: usize) -> &[u8] {
     let (_, rest) = bytes.split_at(at.min(bytes.len()));
     rest.get(..len).unwrap_or(&[])
 }
 
-// The first bytes, so many, and the rest.
+// The first `len` bytes, and the rest.
 fn cut(bytes: &[u8], len: usize) -> (&[u8], &[u8]) {
     bytes.split_at(len.min(bytes.len()))
 }
@@ -70,7 +70,7 @@ fn run_one<S: Source, K: Sink>(
     Ok(top_plain(alloc, &words, source, sink))
 }
 
-// How the run of a word on these bytes ends, and what it writes.
+// How running a word on these bytes ends, and what it writes.
 fn run_on(alloc: Global, word: &str, file: Vec<u8>) -> Result<(Status, Vec<u8>), Fail> {
     let mut source = SureSource::new(Bytes::from_vec(file), 10_000);
     let mut sink = SureSink::new(alloc, 1_000_000, 5_000)?;

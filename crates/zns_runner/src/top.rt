@@ -14,19 +14,19 @@ use session_file::Which;
 use std::alloc::Global;
 use zns_io::{Bytes, Sink, Source, write_all};
 
-/// No input is longer.
+/// The most bytes that an input can have.
 pub const GREATEST_INPUT: u64 = 1 << 29;
 
-// No session that is made has more commands.
+// The most commands of a session that is made.
 const MOST_COMMANDS: u64 = 262_144;
 
-/// The input is longer than the longest.
+/// The status for an input that is too long.
 pub const TOO_LONG: Status = Status::TooLarge {
     which: Which::Input,
     number: GREATEST_INPUT + 1,
 };
 
-// What a new drive answers to the script that an input is.
+// What a new drive answers to the script in `input`.
 fn scripted(alloc: Global, input: &[u8]) -> Result<Bytes, Status>
     requires { length input.now ≤ 2 ^ 29 }
     ensures { Makes Task.Host input.now result }
@@ -35,7 +35,7 @@ fn scripted(alloc: Global, input: &[u8]) -> Result<Bytes, Status>
     Ok(host_script::serve(alloc, script)?)
 }
 
-// The summary of the session of so many commands that a number makes.
+// The summary of the session of `count` commands that `number` determines.
 fn made_summary(alloc: Global, number: u64, count: u64) -> Result<Bytes, Status>
     ensures makes { Makes (Task.Gen number count) [] result }
     ensures by_count { MakesByCount (Task.Gen number count) result }
@@ -59,7 +59,7 @@ fn scripted_from<S: Source>(alloc: Global, source: &mut S) -> Result<Bytes, Stat
     scripted(alloc, input.as_slice())
 }
 
-// What a task makes of what a source gives.
+// The output of a task for what a source gives.
 fn output_of<S: Source>(alloc: Global, task: Task, source: &mut S) -> Result<Bytes, Status>
     requires { IsPlain task }
     ensures output { GivesOutput task (S.left source.old) (S.left source.new)
@@ -77,7 +77,7 @@ fn output_of<S: Source>(alloc: Global, task: Task, source: &mut S) -> Result<Byt
     }
 }
 
-/// Writes what a task made, or nothing where it made none, and says how the run ends.
+/// Writes the output of a task, if there is one, and returns how the run ends.
 pub fn end_with<K: Sink>(sink: &mut K, output: Result<Bytes, Status>) -> Status
     ensures { EndsBy output (K.taken sink.old) (K.taken sink.new)
         (K.faults sink.old) (K.faults sink.new) result }
@@ -92,9 +92,9 @@ pub fn end_with<K: Sink>(sink: &mut K, output: Result<Bytes, Status>) -> Status
     }
 }
 
-/// Does what the words ask for with what the source gives, and writes what it makes to the sink. The
-/// whole output is made before its first byte is written. The word `run` needs threads, and is none
-/// of its words.
+/// Does what the words ask for with what the source gives, and writes the output to the sink. The
+/// whole output is made before its first byte is written. The word `run` needs threads and isn't
+/// accepted here.
 pub fn top_plain<S: Source, K: Sink>(
     alloc: Global,
     words: &[Word],

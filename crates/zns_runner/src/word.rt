@@ -7,7 +7,7 @@ use std::marker::Model;
 use text_lines::number_in;
 use zns_io::{Bytes, NoMemory};
 
-/// A word of the command line, seen as its bytes.
+/// A word of the command line, as its bytes.
 #[derive(Drop)]
 pub struct Word {
     text: Bytes,
@@ -22,7 +22,7 @@ impl Model for Word {
 }
 
 impl Word {
-    /// The word of a text.
+    /// The word that a text spells.
     pub fn of(alloc: Global, text: &str) -> Result<Word, NoMemory>
         ensures { IfOk result (λ w. w ≡ text.now) }
     {
@@ -30,14 +30,15 @@ impl Word {
         Ok(Word { text })
     }
 
-    /// Whether it is this word.
+    /// Whether the word is `text`.
     pub fn is(&self, text: &str) -> bool
         ensures { IsTrue result ↔ (self.now ≡ text.now) }
     {
         self.text.as_slice() == text.as_bytes()
     }
 
-    /// The number of 64 bits that it spells in decimal digits, without leading zeros.
+    /// The 64-bit number that the word spells in decimal digits without leading zeros, if it spells
+    /// one.
     pub fn number(&self) -> Option<u64>
         ensures same { result ≡ number_in self.now }
         ensures exactly { (n : ℕ)

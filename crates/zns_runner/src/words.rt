@@ -21,8 +21,8 @@ fn words_after_name(alloc: Global, args: Args) -> Result<Vec<Word>, NoMemory>
     Ok(words)
 }
 
-// The words of what the environment told. A word that isn't text makes them none, which mean
-// nothing. That memory ran out says nothing of the words, so it stays an error.
+// The words of the environment's arguments. If any argument isn't text, there are no words, which
+// means nothing. Out of memory says nothing about the words, so it stays an error.
 fn words_of(alloc: Global, told: io::Result<Args>) -> Result<Vec<Word>, NoMemory>
     ensures { AreWordsOf told result }
 {
@@ -33,7 +33,7 @@ fn words_of(alloc: Global, told: io::Result<Args>) -> Result<Vec<Word>, NoMemory
     }
 }
 
-/// The words after the program's name. No clause can say what an environment tells.
+/// The words after the program's name. No clause can say what an environment gives.
 pub fn words(rt: &(impl Env + AllocGlobal)) -> Result<Vec<Word>, NoMemory> {
     words_of(rt.alloc(), env::args(rt))
 }

@@ -5,7 +5,7 @@ use Rattle.std.proofs.lemmas.List.{get_or-drop}
 use Rattle.byteorder.specs.Endian.{little_from}
 use Rattle.zns_types.specs.Fields.{field}
 
--- a place behind the first j bytes is a place of all of them
+-- a place after the first j bytes is a place of all bytes
 little_from-drop : (n i j : ℕ) (xs : List ℕ) → little_from i n (drop j xs) ≡ little_from (j + i) n xs
 little_from-drop zero i j xs = refl
 little_from-drop (suc n) i j xs =
@@ -28,7 +28,7 @@ field-from place width bytes =
     let start : place + zero ≡ place = omega arith in
     little_from-drop width 0 place bytes ∙ ap (λ (i : ℕ). little_from i width bytes) start
 
--- a field is its low bytes and, above them, the field behind them
+-- a field is its low bytes and, above them, the field that follows them
 pub field-widths : (place low high : ℕ) (bytes : List ℕ) → field place (low + high) bytes ≡ field place low bytes + 256 ^ low * field (place + low) high bytes
 field-widths place low high bytes =
     let whole = field-from place (low + high) bytes in

@@ -48,7 +48,7 @@ pub field-append : (place width n : ℕ) (before after : List ℕ) → length be
 field-append place width n before after e h =
     rw (← e, drop-append_seam before (little_bytes width n ++ after)) (little_number-reads_back width n after h)
 
--- a field has a number exactly where its bytes are those of the number
+-- a field has a number if and only if its bytes are those of the number
 pub field_spells : (place width n : ℕ) (bytes : List ℕ) → place + width ≤ length bytes → ((i : ℕ) → slice_index bytes i < 256) → n < 256 ^ width → (field place width bytes ≡ n) ↔ (take width (drop place bytes) ≡ little_bytes width n)
 field_spells place width n bytes h fits lt =
     (λ e. sym (little_bytes-field place width bytes h fits) ∙ ap (little_bytes width) e, field-from_bytes place width n bytes lt)

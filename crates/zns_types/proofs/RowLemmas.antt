@@ -2,7 +2,7 @@
 use Rattle.std.proofs.Common.{◌≡◌, Bool, true, false, cond, List, [], ◌∷◌, ◌++◌, Option, Some, None, refl, ap}
 use Rattle.zns_types.specs.Rows.{Row, first_holding}
 
--- where the first rows answer, that is the answer
+-- if the first rows answer, that is the answer
 pub first_holding-append_some : {A : Type 0} (rs more : List (Row A)) (a : A) → first_holding rs ≡ Some a → first_holding (rs ++ more) ≡ Some a
 first_holding-append_some [] more a e = absurd cc
 first_holding-append_some {A} (r ∷ rs) more a e = go r.holds e (first_holding-append_some rs more a)
@@ -11,7 +11,7 @@ first_holding-append_some {A} (r ∷ rs) more a e = go r.holds e (first_holding-
     go true e k = e
     go false e k = k e
 
--- where they don't, the other rows answer
+-- if they don't, the other rows answer
 pub first_holding-append_none : {A : Type 0} (rs more : List (Row A)) → first_holding rs ≡ None → first_holding (rs ++ more) ≡ first_holding more
 first_holding-append_none [] more e = refl
 first_holding-append_none {A} (r ∷ rs) more e = go r.holds e (first_holding-append_none rs more)
@@ -34,12 +34,12 @@ first_fails : {A : Type 0} (b : Bool) (a : A) (rest : Option A) → cond b (Some
 first_fails true a rest e = absurd cc
 first_fails false a rest e = (refl, e)
 
--- where no row answers, no condition holds
+-- if no row answers, no condition holds
 pub none_holds : {A : Type 0} (rs : List (Row A)) → first_holding rs ≡ None → NoneHolds rs
 none_holds [] e = tt
 none_holds (r ∷ rs) e = let h = first_fails r.holds r.answer (first_holding rs) e in (h.0, none_holds rs h.1)
 
--- and the other way round
+-- if no condition holds, no row answers
 pub none_answers : {A : Type 0} (rs : List (Row A)) → NoneHolds rs → first_holding rs ≡ None
 none_answers [] h = refl
 none_answers (r ∷ rs) h = rw h.0 (none_answers rs h.1)

@@ -2,7 +2,7 @@
 use Rattle.std.specs.Prelude.{ℕ, ◌+◌, ◌*◌, ◌-◌, ◌/◌, ◌%◌, ◌^◌, Bool, ◌==◌, List, drop}
 use Rattle.byteorder.specs.Endian.{little_number}
 
--- the number in so many bytes from a place on
+-- the number in `width` bytes from `place` on
 abbrev pub field : ℕ → ℕ → List ℕ → ℕ
 field place width bytes = little_number width (drop place bytes)
 

@@ -1,4 +1,4 @@
--- What the numbers of a drive have to be, and what they mean.
+-- The rules that the numbers of a drive keep, and what they mean.
 use Rattle.std.specs.Prelude.{◌≡◌, ℕ, ◌+◌, ◌*◌, ◌/◌, ◌%◌, ◌^◌, ◌≤◌, min, ◌==◌, ◌||◌, if◌then◌else◌, IsTrue}
 use Rattle.zns_types.specs.declared.fields.GeometryFields.{GeometryFields}
 
@@ -26,7 +26,7 @@ pub record HasGranules (g : GeometryFields) : Type 0 where
   pub some_window : g.granule ≤ g.window
   pub window_fits : g.window ≤ g.capacity
 
--- no granule and no window where no zone may have a random write area; else granules that fit
+-- no granule and no window if no zone may have a random write area; otherwise granules that fit
 pub record HasWindows (g : GeometryFields) : Type 0 where
   pub no_granule : g.windows ≡ 0 → g.granule ≡ 0
   pub no_window : g.windows ≡ 0 → g.window ≡ 0
@@ -61,7 +61,7 @@ first g z = z * g.zone_size
 abbrev pub zone_of : GeometryFields → ℕ → ℕ
 zone_of g lba = lba / g.zone_size
 
--- a block's place in its zone
+-- a block's offset in its zone
 abbrev pub offset_of : GeometryFields → ℕ → ℕ
 offset_of g lba = lba % g.zone_size
 

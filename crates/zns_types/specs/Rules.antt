@@ -1,4 +1,4 @@
--- The rules on the fields of a geometry, in their order: each with what is said where it is broken.
+-- The rules on the fields of a geometry, in their order, each with the error that is given if it is broken.
 use Rattle.std.specs.Prelude.{ℕ, ◌*◌, ◌%◌, ◌^◌, Bool, true, false, not, ◌&&◌, ◌||◌, ◌==◌, nat_lt, if◌then◌else◌, List, [], ◌∷◌, ◌++◌}
 use Rattle.zns_types.specs.declared.fields.GeometryFields.{GeometryFields}
 use Rattle.zns_types.specs.declared.field.Field.{Field}
@@ -31,7 +31,7 @@ zone_rules g =
     ∷ bad Capacity g.capacity ((g.capacity == 0) || nat_lt g.zone_size g.capacity)
     ∷ []
 
--- one of the two holds
+-- exactly one of the two holds
 abbrev pub differ : Bool → Bool → Bool
 differ a b = if a then not b else b
 

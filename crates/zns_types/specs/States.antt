@@ -13,7 +13,7 @@ by_state e i x c f r o Full = f
 by_state e i x c f r o ReadOnly = r
 by_state e i x c f r o Offline = o
 
--- the number by which a descriptor shows it
+-- the number by which a descriptor shows a state
 abbrev pub number_of : State → ℕ
 number_of = by_state 0x1 0x2 0x3 0x4 0xe 0xd 0xf
 

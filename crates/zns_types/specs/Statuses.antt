@@ -92,6 +92,6 @@ same_status a b = if a.sct == b.sct then a.sc == b.sc else false
 abbrev pub is_success : Status → Bool
 is_success s = same_status s success
 
--- the Do Not Retry bit: on every error but the want of a resource
+-- the Do Not Retry bit: set for every error other than the lack of a resource
 abbrev pub do_not_retry : Status → Bool
 do_not_retry s = not (is_success s) && not (same_status s zrwa_resources_unavailable) && not (same_status s too_many_active_zones) && not (same_status s too_many_open_zones)

@@ -5,9 +5,9 @@ use std::marker::Model;
 
 /// The status of a command: the status code type, below 8, and the status code.
 ///
-/// Type 0 has the generic codes (Base Specification 2.0, 3.3.3.2.1), type 1 those that are specific
-/// to a command; B6h to BFh of it are of zones (Zoned Namespace Command Set Specification 1.1,
-/// 3.4).
+/// Type 0 has the generic codes (Base Specification 2.0, 3.3.3.2.1), and type 1 those that are
+/// specific to a command, of which B6h to BFh are for zones (Zoned Namespace Command Set
+/// Specification 1.1, 3.4).
 #[derive(Clone, Copy, Debug, PartialEq, Eq)]
 pub struct Code {
     pub sct: u8,
@@ -36,13 +36,13 @@ impl Default for Code {
 }
 
 impl Code {
-    /// The command did what it asks for.
+    /// The command did what it asked for.
     pub const SUCCESS: Code = Code { sct: 0, sc: 0x00 };
 
     /// Invalid Command Opcode: no command of this kind of queue has the opcode.
     pub const INVALID_OPCODE: Code = Code { sct: 0, sc: 0x01 };
 
-    /// Invalid Field in Command: a field has a value that the command does not take.
+    /// Invalid Field in Command: a field has a value that the command doesn't take.
     pub const INVALID_FIELD: Code = Code { sct: 0, sc: 0x02 };
 
     /// Invalid Namespace or Format: the namespace is not number 1.
@@ -61,7 +61,7 @@ impl Code {
     /// without one, or an Open that asks for one where there can be none.
     pub const INVALID_ZONE_OPERATION: Code = Code { sct: 1, sc: 0xb6 };
 
-    /// ZRWA Resources Unavailable: as many zones have a random write area as may.
+    /// ZRWA Resources Unavailable: no more zones may have a random write area.
     pub const ZRWA_RESOURCES_UNAVAILABLE: Code = Code { sct: 1, sc: 0xb7 };
 
     /// Zone Boundary Error: the blocks end past the capacity, or a Read would cross zones.
@@ -79,17 +79,16 @@ impl Code {
     /// Zone Invalid Write: not at the write pointer, or outside of the random write area.
     pub const ZONE_INVALID_WRITE: Code = Code { sct: 1, sc: 0xbc };
 
-    /// Too Many Active Zones: as many zones are active as may.
+    /// Too Many Active Zones: no more zones may be active.
     pub const TOO_MANY_ACTIVE_ZONES: Code = Code { sct: 1, sc: 0xbd };
 
-    /// Too Many Open Zones: as many zones are opened as may, and no other can be closed for this
-    /// one.
+    /// Too Many Open Zones: no more zones may be opened, and no other can be closed for this one.
     pub const TOO_MANY_OPEN_ZONES: Code = Code { sct: 1, sc: 0xbe };
 
     /// Invalid Zone State Transition: the state does not allow the action.
     pub const INVALID_ZONE_STATE_TRANSITION: Code = Code { sct: 1, sc: 0xbf };
 
-    /// All codes, from success on.
+    /// All codes, starting with success.
     pub fn all() -> [Code; 17]
         ensures { result ≡ all_statuses }
     {
@@ -114,8 +113,8 @@ impl Code {
         ]
     }
 
-    /// Whether the command would be refused again: so for every status that is an error, other than
-    /// want of a resource that another command may give back.
+    /// Whether the command would be refused again. This holds for every error other than the lack
+    /// of a resource that another command may give back.
     pub fn dnr(self) -> bool
         ensures { result ≡ do_not_retry self }
     {

@@ -15,7 +15,7 @@ pub enum Field {
 }
 
 /// The first rule that fields break: the field, its number, and whether the number is too large for
-/// this drive or makes no drive at all.
+/// this drive, rather than making no drive at all.
 #[derive(Clone, Copy, Debug, PartialEq, Eq)]
 pub struct GeomErr {
     pub field: Field,

@@ -4,10 +4,10 @@ pub struct GeometryFields {
     /// A block has `2^block_exp` bytes: 512 or 4,096.
     pub block_exp: u8,
 
-    /// One command moves at most `2^(12 + mdts)` bytes; 0 is no limit but that of 65,536 blocks.
+    /// One command moves at most `2^(12 + mdts)` bytes; 0 means no limit other than 65,536 blocks.
     pub mdts: u8,
 
-    /// One Append moves at most `2^(12 + zasl)` bytes; 0 is no further limit.
+    /// One Append moves at most `2^(12 + zasl)` bytes; 0 means no further limit.
     pub zasl: u8,
 
     /// Bit 0: a Read may cross the boundary of two zones.
@@ -22,13 +22,13 @@ pub struct GeometryFields {
     /// The blocks of a zone that can be written.
     pub capacity: u64,
 
-    /// The most zones that may be active; 0 is no limit.
+    /// The most zones that may be active; 0 means no limit.
     pub active_limit: u32,
 
-    /// The most zones that may be opened; 0 is no limit.
+    /// The most zones that may be opened; 0 means no limit.
     pub open_limit: u32,
 
-    /// The most zones that may have a random write area; 0 is no support for any.
+    /// The most zones that may have a random write area; 0 means that none is supported.
     pub windows: u32,
 
     /// The blocks that a random write area commits at a time.
@@ -37,7 +37,7 @@ pub struct GeometryFields {
     /// The blocks of a random write area.
     pub window: u16,
 
-    /// The number of queues, the admin queue among them.
+    /// The number of queues, including the admin queue.
     pub queues: u16,
 
     /// The entries of each queue.

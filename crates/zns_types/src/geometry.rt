@@ -4,7 +4,7 @@ use crate::field::GeomErr;
 use crate::fields::GeometryFields;
 use crate::rules::first_broken;
 
-/// The numbers of a drive that keep all rules of a session's header. Blocks are logical blocks,
+/// The numbers of a drive, which keep all rules of a session's header. Blocks are logical blocks;
 /// zones and blocks are counted from 0.
 #[derive(Clone, Copy, Debug)]
 pub struct Geometry {
@@ -48,7 +48,7 @@ impl Geometry {
         1 << self.fields.block_exp
     }
 
-    /// How many blocks the namespace has.
+    /// The number of blocks of the namespace.
     pub fn blocks(&self) -> u64
         ensures exact { result ≡ all_blocks self.now.fields }
         ensures small { result < 2 ^ 32 }
@@ -65,7 +65,7 @@ impl Geometry {
         u64::from(zone) * self.fields.zone_size
     }
 
-    /// The number of the zone that has a block of the namespace.
+    /// The number of the zone that holds a block of the namespace.
     pub fn zone_of(&self, lba: u64) -> u32
         requires { lba < all_blocks self.now.fields }
         ensures exact { result ≡ zone_of self.now.fields lba }
@@ -74,7 +74,7 @@ impl Geometry {
         (lba / self.fields.zone_size) as u32
     }
 
-    /// The place of a block in its zone, in blocks from the zone's start.
+    /// The offset of a block in its zone, in blocks from the zone's start.
     pub fn offset_of(&self, lba: u64) -> u64
         ensures exact { result ≡ offset_of self.now.fields lba }
         ensures within { result < self.now.fields.zone_size }
@@ -82,7 +82,7 @@ impl Geometry {
         lba % self.fields.zone_size
     }
 
-    /// The most bytes that one command may move: 65,536 blocks, and less where `mdts` says so (Base
+    /// The most bytes that one command may move: 65,536 blocks, or less if `mdts` says so (Base
     /// Specification 2.0, 5.17.2.1).
     pub fn greatest_transfer(&self) -> u64
         ensures { result ≡ greatest_transfer self.now.fields }

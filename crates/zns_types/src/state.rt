@@ -30,7 +30,7 @@ impl State {
         }
     }
 
-    /// The state that has this number, if one does.
+    /// The state with this number, if there is one.
     pub fn of_number(number: u8) -> Option<State>
         ensures found { IfSome result (λ s. number_of s ≡ number) }
         ensures none { IfNone result ((s : State) → number_of s ≢ number) }
@@ -48,14 +48,15 @@ impl State {
         }
     }
 
-    /// Whether nothing was written since the last reset, and the zone uses no resource.
+    /// Whether the zone is Empty: nothing was written since the last reset, and it uses no
+    /// resource.
     pub fn is_empty(self) -> bool
         ensures { result ≡ is_empty self }
     {
         matches!(self, State::Empty)
     }
 
-    /// Whether a write, and no Open, opened the zone.
+    /// Whether the zone was opened by a write, not by an Open.
     pub fn is_implicitly_opened(self) -> bool
         ensures { result ≡ is_implicitly_opened self }
     {

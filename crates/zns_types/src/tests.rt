@@ -1,6 +1,6 @@
 use crate::{Code, Field, GeomErr, Geometry, GeometryFields, State};
 
-// Sixty-four zones of 64 blocks, with areas of two granules.
+// Sixty-four zones of 64 blocks, with random write areas of two granules.
 const DRIVE: GeometryFields = GeometryFields {
     block_exp: 12,
     mdts: 0,

@@ -23,7 +23,7 @@ length-kept len bytes marks = length-map-range_with_len (kept_block len bytes ma
 pub get_or-kept : (len : ℕ) (bytes : List ℕ) (marks : List Bool) (b : ℕ) → b < length marks → get_or (kept_blocks len bytes marks) b None ≡ kept_block len bytes marks b
 get_or-kept len bytes marks b lt = get_or-map-range_with_len (kept_block len bytes marks) 0 (length marks) b b None lt (omega arith)
 
--- two functions that agree below n make one list
+-- two functions that agree below n give the same list
 same_map : {X : Type 0} (f h : ℕ → X) (n : ℕ) (d : X) → ((k : ℕ) → k < n → f k ≡ h k) → map f (range_with_len 0 n) ≡ map h (range_with_len 0 n)
 same_map f h n d same =
     fill_by_all h (map f (range_with_len 0 n)) n d (length-map-range_with_len f 0 n)
@@ -38,7 +38,7 @@ kept-none len n bytes =
 
 -- ---- bytes that go on
 
--- each block that is marked lies in so many bytes
+-- each marked block lies within the first `n` bytes
 abbrev pub Lie : ℕ → List Bool → ℕ → Type 0
 Lie len marks n = (b : ℕ) → get_or marks b false ≡ true → (b + 1) * len ≤ n
 
@@ -67,7 +67,7 @@ block_below len at k b xs ys before within =
     ∙ ap (drop (b * len)) (take-put_mid_below at k xs ys (b * len + len) before within)
     ∙ drop-take (b * len) len xs
 
--- a block that begins behind the data
+-- a block that starts after the data
 block_above : (len at k b : ℕ) (xs ys : List ℕ) → at + k ≤ b * len → at ≤ length xs → length ys ≡ k → block_at len (put_mid at k xs ys) b ≡ block_at len xs b
 block_above len at k b xs ys behind within size = ap (take len) (drop-put_mid at k xs ys (b * len) behind within size)
 
@@ -84,7 +84,7 @@ block_inside len at k j n xs ys place fits within =
 place : (from b len : ℕ) → from ≤ b → from * len + (b - from) * len ≡ b * len
 place from b len le = sym (add-mul from (b - from) len) ∙ ap (λ (x : ℕ). x * len) (omega arith)
 
--- one block, where host data was put from a block on
+-- one block, after host data was written from a block on
 kept_block-put : (len from count b : ℕ) (bytes payload : List ℕ) (marks : List Bool) → from * len ≤ length bytes → count * len ≡ length payload → from + count ≤ length marks → b < length marks
     → kept_block len (put_mid (from * len) (length payload) bytes payload) (marked marks from count) b
     ≡ cond (nat_le from b && nat_lt b (from + count)) (Some (block_at len payload (b - from))) (kept_block len bytes marks b)
@@ -109,7 +109,7 @@ kept_block-put len from count b bytes payload marks at_place whole within lt =
       ]
     ]
 
--- all blocks, where host data was put from a block on
+-- all blocks, after host data was written from a block on
 kept-put : (len from : ℕ) (bytes payload : List ℕ) (marks : List Bool) → from * len ≤ length bytes → length payload / len * len ≡ length payload → from + length payload / len ≤ length marks
     → kept_blocks len (put_mid (from * len) (length payload) bytes payload) (marked marks from (length payload / len)) ≡ with_blocks len from payload (kept_blocks len bytes marks)
 kept-put len from bytes payload marks at_place whole within =
@@ -117,7 +117,7 @@ kept-put len from bytes payload marks at_place whole within =
     (same_map _ _ (length marks) None
     (λ b lt. kept_block-put len from (length payload / len) b bytes payload marks at_place whole within lt ∙ ap (λ (o : Option (List ℕ)). cond (nat_le from b && nat_lt b (from + length payload / len)) (Some (block_at len payload (b - from))) o) (sym (get_or-kept len bytes marks b lt))))
 
--- all blocks, where host data was laid down from a block on
+-- all blocks, after host data was laid down from a block on
 pub kept-laid : (len from : ℕ) (bytes payload : List ℕ) (marks : List Bool) → Lie len marks (length bytes) → length payload / len * len ≡ length payload → from + length payload / len ≤ length marks
     → kept_blocks len (laid (from * len) payload bytes) (marked marks from (length payload / len)) ≡ with_blocks len from payload (kept_blocks len bytes marks)
 kept-laid len from bytes payload marks lie whole within =

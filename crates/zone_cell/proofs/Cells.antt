@@ -1,4 +1,4 @@
--- What stays as cells change.
+-- What stays true as cells change.
 use Rattle.std.proofs.Common.{◌≡◌, ℕ, ◌+◌, ◌-◌, ◌%◌, ◌<◌, ◌≤◌, IsTrue, List, None, length, ◌∙◌, arith}
 use Rattle.std.specs.Prelude.{◌||◌, nat_le, nat_lt}
 use Rattle.std.proofs.lemmas.Bool.{and_parts, or_parts, not-false, ltb-false, eqb-true}
@@ -13,8 +13,7 @@ use Rattle.drive_rules.specs.ZoneRows.{Zone, commit_rows}
 use Rattle.zone_cell.specs.Cells.{Cell, IsOf, sight, in_state, with_data, after_write, after_commit}
 use Rattle.zone_cell.proofs.Blocks.{length-with_blocks}
 
--- A cell in a state is a drive's where it is of the drive's size, and its pointer stands on a granule while it has a
--- random write area.
+-- A cell in a state is one of a drive if it has the drive's sizes, and its pointer is on a granule while it has a random write area.
 pub IsOf-in_state : (g : GeometryFields) (state : State) (pointer : ℕ) (c : Cell) → c.zone < g.zones → c.block_len ≡ block_len g → length c.blocks ≡ g.capacity → (IsTrue c.window → 1 ≤ g.windows)
     → (IsTrue c.window → IsTrue (is_active state) → pointer % g.granule ≡ 0) → IsOf g (in_state state pointer c)
 IsOf-in_state g state pointer c zone len blocks windows granular = record {

@@ -10,7 +10,7 @@ use Rattle.zone_cell.specs.Kept.{laid}
 pub length-padded : (n : ℕ) (xs : List ℕ) → length (padded n xs) ≡ length xs + (n - length xs)
 length-padded n xs = length-append xs (replicate (n - length xs) 0) ∙ ap (λ (k : ℕ). length xs + k) (length-replicate (n - length xs) 0)
 
--- bytes that were laid down stand in place of those that were there
+-- bytes that were laid down replace those that were there
 pub laid-put : (place : ℕ) (payload bytes : List ℕ) → laid place payload bytes ≡ put_mid place (length payload) (padded (place + length payload) bytes) payload
 laid-put place payload bytes =
     let all = padded (place + length payload) bytes in
@@ -23,7 +23,7 @@ padded_long n xs long =
     let none : n - length xs ≡ 0 = omega arith in
     rw none (append-nil xs)
 
--- so many zeros, and then more
+-- some zeros followed by more
 zeros_more : (xs : List ℕ) (a b n : ℕ) → a + b ≡ n → xs ++ replicate n 0 ≡ (xs ++ replicate a 0) ++ replicate b 0
 zeros_more xs a b n sum = rw (← sum, ← replicate-append-replicate {A = ℕ} a b 0) (sym (append_assoc xs (replicate a 0) (replicate b 0)))
 
@@ -61,7 +61,7 @@ joined front first rest last back same =
     ∙ ap (λ (z : List ℕ). front ++ z) (append_assoc first rest last ∙ ap (λ (z : List ℕ). first ++ z) same ∙ sym (append_assoc first last back))
     ∙ sym (append_assoc front (first ++ last) back)
 
--- data that lies over the bytes as far as they go, and then after them
+-- data that overwrites the bytes up to their end, and then extends them
 laid_over : (place over : ℕ) (bytes payload xs : List ℕ) → xs ≡ padded place bytes → over ≡ min (length payload) (length xs - place)
     → put_mid place over xs (take over payload) ++ drop over payload ≡ laid place payload bytes
 laid_over place over bytes payload xs xs-is over-is =

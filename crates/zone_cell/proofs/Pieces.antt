@@ -43,7 +43,7 @@ no_hole : (m : Bool) (rest : ℕ) → cond (not m) 1 0 + rest ≡ 0 → (m ≡ t
 no_hole true rest e = (refl, omega arith)
 no_hole false rest e = absurd (omega arith)
 
--- they stand in one piece
+-- they are in one piece
 pub whole_run : (len : ℕ) (bytes : List ℕ) (marks : List Bool) (from n : ℕ) → from + n ≤ length marks → count_by not (take n (drop from marks)) ≡ 0
     → flat_map (λ b. seen_block len (get_or (kept_blocks len bytes marks) b None)) (range_with_len from n) ≡ take (n * len) (drop (from * len) bytes)
 whole_run len bytes marks from zero within none = rw (zero-mul len) refl
@@ -57,7 +57,7 @@ whole_run len bytes marks from (suc n) within none =
     let next : drop len (drop (from * len) bytes) ≡ drop ((from + 1) * len) bytes = drop-drop len (from * len) bytes ∙ ap (λ k. drop k bytes) (omega (arith, add-mul from 1 len)) in
     rw (here, rest, size, take_sum len (n * len) (drop (from * len) bytes), next) refl
 
--- where there is no hole, the last block is marked
+-- if there is no gap, the last block is marked
 pub last_marked : (marks : List Bool) (from n : ℕ) → from + suc n ≤ length marks → count_by not (take (suc n) (drop from marks)) ≡ 0 → get_or marks (from + n) false ≡ true
 last_marked marks from zero within none =
     let marked : Bool = get_or marks from false in

@@ -1,4 +1,4 @@
--- What the fields of a cell say of what contracts see.
+-- What the fields of a cell say about what contracts see.
 use Rattle.std.proofs.Common.{◌≡◌, ℕ, suc, ◌+◌, ◌*◌, ◌-◌, ◌/◌, ◌<◌, ◌≤◌, Bool, true, false, cond, inl, inr, Option, Some, None, List, ◌++◌, take, drop, length, get_or, map, refl, sym, ap, ◌∙◌, arith, vec_len, vec_capacity}
 use Rattle.std.proofs.Math.Nat.{add-mul}
 use Rattle.std.proofs.lemmas.Nat.{mul-le}
@@ -24,7 +24,7 @@ is_some_kept false x = refl
 pub marks_of : (a : Inside) (c : Cell) → the_view a ≡ c → length a.written ≡ length c.blocks
 marks_of a c is = sym (length-kept a.block_len a.bytes.items a.written) ∙ ap (λ (z : Cell). length z.blocks) is
 
--- the bytes before a block are no more than those of all blocks
+-- the bytes before a block are at most those of all blocks
 pub bytes_before : (a : Inside) (c : Cell) (block : ℕ) → the_view a ≡ c → block ≤ length c.blocks → block * a.block_len ≤ length a.written * a.block_len
 bytes_before a c block is within =
     let n = marks_of a c is in
@@ -39,7 +39,7 @@ end_within a c from size is within whole =
     let f : (from + size / c.block_len) * c.block_len ≤ length a.written * a.block_len = omega (arith, e, ap (λ (k : ℕ). (from + size / c.block_len) * k) len) in
     omega (arith, add-mul from (size / c.block_len) c.block_len)
 
--- what a cell shows once host data was laid down in its bytes and the blocks were marked
+-- what a cell shows after host data was laid down in its bytes and the blocks were marked
 pub stored : (a : Inside) (c : Cell) (from place : ℕ) (payload new : List ℕ) → the_view a ≡ c → IsSound a.block_len a.pointer (vec_len a.bytes) (vec_capacity a.bytes) a.written
     → from + length payload / c.block_len ≤ length c.blocks → length payload / c.block_len * c.block_len ≡ length payload → place ≡ from * c.block_len → new ≡ laid place payload a.bytes.items
     → (let z : Cell = record (the_view a) { blocks = kept_blocks a.block_len new (marked a.written from (length payload / a.block_len)) } in z) ≡ record c { blocks = with_blocks c.block_len from payload c.blocks }
@@ -93,7 +93,7 @@ block_within a c b is some = elim (cases_lt b (length a.written)) [
 pub block_ends : (a : Inside) (c : Cell) (b : ℕ) → the_view a ≡ c → IsSound a.block_len a.pointer (vec_len a.bytes) (vec_capacity a.bytes) a.written → true ≡ is_some (get_or c.blocks b None) → (b + 1) * a.block_len ≤ vec_len a.bytes
 block_ends a c b is sound some = sound.lies b (marked_block a c b is (block_within a c b is some) ∙ sym some)
 
--- it stands in the bytes
+-- it is found in the bytes
 pub block_stands : (a : Inside) (c : Cell) (b : ℕ) → the_view a ≡ c → true ≡ is_some (get_or c.blocks b None) → Some (take a.block_len (drop (b * a.block_len) a.bytes.items)) ≡ get_or c.blocks b None
 block_stands a c b is some =
     let lt = block_within a c b is some in
@@ -125,13 +125,13 @@ holds_more a c more out is sound out-is =
     let len : c.block_len ≡ a.block_len = ap (λ (z : Cell). z.block_len) (sym is) in
     rw (out-is, len, ← marks_are a c is) (ap (λ (z : Cell). z.blocks) (sym is) ∙ sym (kept-more a.block_len a.bytes.items more a.written (λ b mark. omega (arith, sound.lies b mark))))
 
--- a cell's bytes are no more than all of its blocks take
+-- a cell's bytes are at most what all of its blocks take
 pub bytes_fit : (g : GeometryFields) (a : Inside) (c : Cell) → the_view a ≡ c → IsSound a.block_len a.pointer (vec_len a.bytes) (vec_capacity a.bytes) a.written → IsOf g c → vec_len a.bytes ≤ g.capacity * block_len g
 bytes_fit g a c is sound of =
     let all : length a.written * a.block_len ≡ g.capacity * block_len g = rw (marks_of a c is, of.blocks, ap (λ (z : Cell). z.block_len) is, of.len) refl in
     omega (arith, sound.fits)
 
--- blocks without a hole among them stand in the bytes
+-- blocks without a gap are found in the bytes
 pub run_stands : (a : Inside) (c : Cell) (from count : ℕ) → the_view a ≡ c → from + count ≤ length a.written → holes a.written from (from + count) ≡ 0
     → take (count * a.block_len) (drop (from * a.block_len) a.bytes.items) ≡ bytes_at c from count
 run_stands a c from count is within none =

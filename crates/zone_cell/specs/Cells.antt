@@ -1,4 +1,4 @@
--- A zone as its cell keeps it, and what each action makes of it.
+-- A zone as its cell keeps it, and the effect of each action on it.
 use Rattle.std.specs.Prelude.{◌≡◌, ℕ, ◌+◌, ◌-◌, ◌*◌, ◌/◌, ◌%◌, ◌<◌, ◌≤◌, Bool, IsTrue, false, ◌&&◌, ◌||◌, ◌==◌, nat_le, nat_lt, if◌then◌else◌, max, List, length, map, replicate, slice_index_or, Option, Some, None, is_some}
 use Rattle.std.specs.List.{flat_map, range_with_len}
 use Rattle.zns_types.specs.declared.fields.GeometryFields.{GeometryFields}
@@ -17,8 +17,8 @@ use Rattle.zrwa_window.specs.Marks.{holes}
 use Rattle.zone_descriptor.specs.declared.descriptor.Descriptor.{Descriptor}
 use Rattle.zone_cell.specs.Kept.{kept_blocks}
 
--- One zone: its number, the bytes of its blocks, its state, the offset of its write pointer, whether it has a random
--- write area, what the controller recommends, and of each block the bytes that were written since the last reset.
+-- One zone: its number, the length of its blocks in bytes, its state, the offset of its write pointer, whether it has a random write area,
+-- what the controller recommends, and for each block the bytes written since the last reset.
 pub record Cell : Type 0 where
   pub zone : ℕ
   pub block_len : ℕ
@@ -30,8 +30,8 @@ pub record Cell : Type 0 where
   pub reset_recommended : Bool
   pub blocks : List (Option (List ℕ))
 
--- A cell of a drive. It has a random write area only where zones of the drive may, while it is active, and its pointer
--- then stands on a granule.
+-- A cell of a drive. It has a random write area only if zones of the drive may have one and while it is active, and its pointer is then on
+-- a granule.
 pub record IsOf (g : GeometryFields) (c : Cell) : Type 0 where
   pub zone : c.zone < g.zones
   pub len : c.block_len ≡ block_len g
@@ -40,11 +40,11 @@ pub record IsOf (g : GeometryFields) (c : Cell) : Type 0 where
   pub granular : IsTrue c.window → c.pointer % g.granule ≡ 0
   pub active : IsTrue c.window → IsTrue (is_active c.state)
 
--- what the rows of a refusal read of it
+-- what the rows of a refusal see of a cell
 abbrev pub sight : Cell → Zone
 sight c = record { state = c.state; window = c.window; pointer = c.pointer }
 
--- a zone to which nothing was done
+-- a new zone
 abbrev pub fresh : GeometryFields → ℕ → Cell
 fresh g z = record {
   zone = z;
@@ -99,8 +99,8 @@ after_excursion g kind c = in_state (after (action.Excursion kind) c.state) (if 
 abbrev pub after_open : Bool → Cell → Cell
 after_open asks c = in_state (after action.Open c.state) c.pointer (record c { window = c.window || asks })
 
--- The zone after an action that its state allows; an Open may ask for a random write area. Of a write or a commit this
--- is the state alone.
+-- The zone after an action that its state allows; an Open may ask for a random write area. For a write or a commit this changes the state
+-- alone.
 abbrev pub after_action : GeometryFields → Action → Bool → Cell → Cell
 after_action g action.Reset asks c = after_reset c
 after_action g action.Finish asks c = in_state (after action.Finish c.state) g.capacity c
@@ -110,17 +110,17 @@ after_action g a asks c = in_state (after a c.state) c.pointer c
 
 -- ---- writes and commits
 
--- no state that refuses every write
+-- a state that doesn't refuse every write
 pub record TakesWrites (s : State) : Type 0 where
   pub full : is_full s ≡ false
   pub read_only : is_read_only s ≡ false
   pub offline : is_offline s ≡ false
 
--- the blocks of host data
+-- the number of blocks of host data
 abbrev pub count_of : Cell → List ℕ → ℕ
 count_of c payload = length payload / c.block_len
 
--- the blocks with host data from an offset on
+-- the blocks with host data written from an offset on
 abbrev pub with_blocks : ℕ → ℕ → List ℕ → List (Option (List ℕ)) → List (Option (List ℕ))
 with_blocks len from payload blocks = map (λ b. if nat_le from b && nat_lt b (from + length payload / len) then Some (block_at len payload (b - from)) else slice_index_or blocks b None) (range_with_len 0 (length blocks))
 
@@ -128,8 +128,8 @@ with_blocks len from payload blocks = map (λ b. if nat_le from b && nat_lt b (f
 abbrev pub with_data : ℕ → List ℕ → Cell → Cell
 with_data from payload c = record c { blocks = with_blocks c.block_len from payload c.blocks }
 
--- The pointer after a write up to an offset: it moves by the blocks that are written; with a random write area, to the
--- least granule from where on the write ends inside the area.
+-- The pointer after a write that ends at an offset: it moves by the number of blocks written; with a random write area, to the lowest
+-- granule from which the area includes the end of the write.
 abbrev pub pointer_after : GeometryFields → Cell → ℕ → ℕ → ℕ
 pointer_after g c count end = if c.window then least_multiple g.granule (max c.pointer (end - g.window)) else c.pointer + count
 
@@ -140,11 +140,11 @@ after_write g from payload c = in_state (state_after g.capacity action.Write poi
     pointer : ℕ
     pointer = pointer_after g c (count_of c payload) (from + count_of c payload)
 
--- the zone after the blocks up to a last one were committed
+-- the zone after a commit of the blocks up to and including `last`
 abbrev pub after_commit : GeometryFields → ℕ → Cell → Cell
 after_commit g last c = in_state (state_after g.capacity action.Commit (last + 1) c.state) (last + 1) c
 
--- host data of one block or more, each of them whole
+-- host data of one or more whole blocks
 pub record IsBlocks (len : ℕ) (payload : List ℕ) : Type 0 where
   pub some : 1 ≤ length payload / len
   pub whole : length payload / len * len ≡ length payload
@@ -158,15 +158,15 @@ pub record MayAsk (g : GeometryFields) (a : Action) (c : Cell) : Type 0 where
 
 -- ---- what is read
 
--- a block's bytes, and zeros where none were written
+-- a block's bytes, or zeros if none were written
 abbrev pub seen_at : Cell → ℕ → List ℕ
 seen_at c b = seen_block c.block_len (slice_index_or c.blocks b None)
 
--- the bytes of blocks from an offset on, also of those between the capacity and the zone's size
+-- the bytes of `count` blocks from an offset on, including those between the capacity and the zone's size
 abbrev pub bytes_at : Cell → ℕ → ℕ → List ℕ
 bytes_at c from count = flat_map (λ b. seen_at c b) (range_with_len from count)
 
--- all of them were written
+-- all of these blocks were written
 pub record AreWritten (c : Cell) (from count : ℕ) : Type 0 where
   pub within : from + count ≤ length c.blocks
   pub no_hole : holes (map is_some c.blocks) from (from + count) ≡ 0

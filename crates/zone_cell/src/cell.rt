@@ -10,7 +10,7 @@ use zns_io::NoMemory;
 use zns_types::{Geometry, State};
 use zrwa_window::Written;
 
-/// One zone: its state, its write pointer, and the blocks that were written since its last reset.
+/// One zone: its state, its write pointer, and the blocks written since its last reset.
 #[derive(Drop)]
 pub struct ZoneCell {
     zone: u32,
@@ -21,8 +21,9 @@ pub struct ZoneCell {
     finished: bool,
     finish_recommended: bool,
     reset_recommended: bool,
-    // The blocks one after another, as far as any was ever written, with room for all. What lies in
-    // a block that isn't marked means nothing. Memory that no block lies in stays untouched.
+    // The blocks one after another, up to the last that was ever written, with room for all. The
+    // bytes of a block that isn't marked have no meaning. Memory beyond the written blocks stays
+    // untouched.
     bytes: Vec<u8>,
     written: Written,
 }
@@ -40,7 +41,7 @@ impl Model for ZoneCell {
         (vec_capacity c.bytes) c.written };
 }
 
-/// The bytes of all blocks of a zone that can be written.
+/// The total size in bytes of the blocks of a zone that can be written.
 pub(crate) fn all_bytes(g: &Geometry) -> usize
     ensures exact { result ≡ g.now.fields.capacity * block_len g.now.fields }
     ensures small { result ≤ 2 ^ 28 }
@@ -50,7 +51,7 @@ pub(crate) fn all_bytes(g: &Geometry) -> usize
 }
 
 impl ZoneCell {
-    /// A zone to which nothing was done.
+    /// A new zone.
     pub fn new(alloc: Global, g: &Geometry, zone: u32) -> Result<ZoneCell, NoMemory>
         requires { zone < g.now.fields.zones }
         ensures fresh { IfOk result (λ c. c ≡ fresh g.now.fields zone) }
@@ -86,7 +87,7 @@ impl ZoneCell {
         self.state
     }
 
-    /// The write pointer, in blocks from the start of the zone. It's kept in every state.
+    /// The write pointer, in blocks from the start of the zone. It is kept in every state.
     pub fn pointer(&self) -> u64
         ensures exact { result ≡ self.now.pointer }
         ensures within { result ≤ length self.now.blocks }
@@ -102,8 +103,8 @@ impl ZoneCell {
         self.window
     }
 
-    /// The bits that a zone descriptor shows: finished by the controller, a finish recommended, a
-    /// reset recommended, and that the zone has a random write area.
+    /// The attribute bits of a zone descriptor: finished by the controller, finish recommended,
+    /// reset recommended, and having a random write area.
     pub(crate) fn attributes(&self) -> u8
         ensures { result ≡ attributes_of self.now }
     {
@@ -113,7 +114,7 @@ impl ZoneCell {
             + 8 * u8::from(self.window)
     }
 
-    /// The bytes of a block.
+    /// The length of a block in bytes.
     pub(crate) fn block_len(&self) -> u32
         ensures exact { result ≡ self.now.block_len }
         ensures some { 1 ≤ result }
@@ -122,7 +123,7 @@ impl ZoneCell {
         self.block_len
     }
 
-    // The place of a block in the bytes.
+    // The index of a block's first byte.
     fn place(&self, block: u64) -> usize
         requires { block ≤ length self.now.blocks }
         ensures exact { result ≡ block * self.now.block_len }
@@ -131,7 +132,8 @@ impl ZoneCell {
         block as usize * self.block_len as usize
     }
 
-    /// Leads the zone to a state, with its pointer there. What the state has no use for ends.
+    /// Puts the zone into `state`, with its pointer at `pointer`. Whatever the state has no use for
+    /// ends.
     pub(crate) fn lead(&mut self, state: State, pointer: u64)
         requires { pointer ≤ length self.old.blocks }
         ensures { self.new ≡ in_state state pointer self.old }
@@ -144,14 +146,14 @@ impl ZoneCell {
         self.reset_recommended = self.reset_recommended && state.is_writable();
     }
 
-    /// Gives the zone a random write area where one is asked for.
+    /// Gives the zone a random write area if `asked`.
     pub(crate) fn give_window(&mut self, asked: bool)
         ensures { self.new ≡ record self.old { window = self.old.window || asked } }
     {
         self.window |= asked;
     }
 
-    /// Notes what an excursion of a kind recommends, or that it finished the zone.
+    /// Records what an excursion of `kind` recommends, or that it finished the zone.
     pub(crate) fn note(&mut self, kind: u8)
         ensures { self.new ≡ with_note kind self.old }
     {
@@ -174,7 +176,7 @@ impl ZoneCell {
         self.written.clear();
     }
 
-    /// Puts host data into the blocks from an offset on.
+    /// Stores host data in the blocks starting at offset `from`.
     pub(crate) fn store(&mut self, from: u64, payload: &[u8])
         requires blocks { IsBlocks self.old.block_len payload.now }
         requires within { from + count_of self.old payload.now ≤ length self.old.blocks }
@@ -186,14 +188,14 @@ impl ZoneCell {
         self.written.mark(from as u32, count as u32);
     }
 
-    // Whether a block was written since the last reset.
+    // Whether a block has been written since the last reset.
     fn is_written(&self, block: u64) -> bool
         ensures { result ≡ is_some (slice_index_or self.now.blocks block None) }
     {
         block < u64::from(self.written.len()) && self.written.is_written(block as u32)
     }
 
-    /// The bytes of a block, where it was written.
+    /// The bytes of a block, if it was written.
     pub(crate) fn block(&self, block: u64) -> Option<&[u8]>
         ensures bytes { option_copied result ≡ slice_index_or self.now.blocks block None }
         ensures len { IfSome result (λ bytes. length bytes.now ≡ self.now.block_len) }
@@ -204,7 +206,7 @@ impl ZoneCell {
         Some(&self.bytes[self.place(block)..self.place(block + 1)])
     }
 
-    /// The bytes of `count` blocks from an offset on, where all of them were written.
+    /// The bytes of `count` blocks starting at offset `from`, if all of them were written.
     pub(crate) fn run(&self, from: u64, count: u32) -> Option<&[u8]>
         requires { from < 2 ^ 32 }
         ensures bytes { IfSome result (λ bytes. bytes.now ≡ bytes_at self.now from count) }
@@ -222,8 +224,8 @@ impl ZoneCell {
         Some(&self.bytes[self.place(from)..self.place(end)])
     }
 
-    /// Fills `out` with all blocks one after another. What lies in a block that wasn't written means
-    /// nothing.
+    /// Fills `out` with all blocks, one after another. The bytes of a block that wasn't written
+    /// have no meaning.
     pub fn bytes(&self, g: &Geometry, out: &mut [u8])
         requires of { IsOf g.now.fields self.now }
         requires room { length out.old ≡ g.now.fields.capacity * block_len g.now.fields }
@@ -234,7 +236,7 @@ impl ZoneCell {
         rest.fill(0);
     }
 
-    /// Which blocks were written since the last reset.
+    /// Which blocks have been written since the last reset.
     pub fn written(&self) -> &Written
         ensures { result.now ≡ map is_some self.now.blocks }
     {

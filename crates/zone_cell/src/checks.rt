@@ -20,7 +20,7 @@ const NOTHING: Need = Need {
     window: false,
 };
 
-// The status by which a state refuses every write.
+// The status with which a state refuses every write.
 fn open_to_writes(state: State) -> Result<(), Code>
     ensures open { OnOk result (TakesWrites state) }
     ensures closed { IfErr result (ClosesBy state) }
@@ -34,7 +34,7 @@ fn open_to_writes(state: State) -> Result<(), Code>
 }
 
 impl ZoneCell {
-    /// The status by which the zone refuses a deed, or what the deed needs.
+    /// What the deed needs, or the status with which the zone refuses it.
     pub fn check(&self, g: &Geometry, deed: Deed) -> Result<Need, Code>
         requires of { IsOf g.now.fields self.now }
         requires offset { HasSmallOffset deed }
@@ -49,8 +49,8 @@ impl ZoneCell {
         }
     }
 
-    /// The status by which the zone refuses a Write of `count` blocks from the offset `from` on, or
-    /// what the Write needs.
+    /// What a Write of `count` blocks starting at offset `from` needs, or the status with which the
+    /// zone refuses it.
     pub fn check_write(&self, g: &Geometry, from: u64, count: u32) -> Result<Need, Code>
         requires { from < 2 ^ 32 }
         ensures { result ≡ judgement g.now.fields (deed.Write from count) self.now }
@@ -65,7 +65,7 @@ impl ZoneCell {
         Ok(self.need())
     }
 
-    /// The status by which the zone refuses an Append of `count` blocks, or what the Append needs.
+    /// What an Append of `count` blocks needs, or the status with which the zone refuses it.
     pub fn check_append(&self, g: &Geometry, count: u32) -> Result<Need, Code>
         ensures { result ≡ judgement g.now.fields (deed.Append count) self.now }
     {
@@ -79,7 +79,7 @@ impl ZoneCell {
         Ok(self.need())
     }
 
-    // The status by which the zone refuses an Open, or what the Open needs.
+    // What an Open needs, or the status with which the zone refuses it.
     fn check_open(&self, g: &Geometry, window: bool) -> Result<Need, Code>
         ensures { result ≡ judgement g.now.fields (deed.Open window) self.now }
     {
@@ -98,7 +98,7 @@ impl ZoneCell {
         })
     }
 
-    // The status by which the zone refuses a commit up to a last block, or what the commit needs.
+    // What a commit up to block `last` needs, or the status with which the zone refuses it.
     fn check_commit(&self, g: &Geometry, last: u64) -> Result<Need, Code>
         requires { IsOf g.now.fields self.now }
         ensures { result ≡ judgement g.now.fields (deed.Commit last) self.now }
@@ -113,7 +113,7 @@ impl ZoneCell {
         })
     }
 
-    // The status by which the zone's state refuses an action that needs nothing.
+    // The status with which the zone's state refuses an action that needs nothing.
     fn check_state(&self, action: Action) -> Result<Need, Code>
         ensures { result ≡ state_judgement action self.now.state }
     {
@@ -123,7 +123,8 @@ impl ZoneCell {
         Ok(NOTHING)
     }
 
-    // Whether a Write starts elsewhere than at the pointer, or misses the random write area.
+    // Whether a Write doesn't start at the pointer, or misses the random write area if there is
+    // one.
     fn is_misplaced(&self, g: &Geometry, from: u64, count: u32) -> bool
         requires { from < 2 ^ 32 }
         ensures { result ≡ is_misplaced g.now.fields (sight self.now) from (from + count) }
@@ -135,7 +136,7 @@ impl ZoneCell {
         }
     }
 
-    // What makes the zone opened.
+    // What the zone needs to become opened.
     fn need(&self) -> Need
         ensures { result ≡ need_for (deed.Append 1) (sight self.now) }
     {

@@ -3,8 +3,8 @@ ghost use Rattle.zone_cell.specs.Kept.{laid};
 
 use zns_io::pad;
 
-/// Lays data down in the bytes from a place on, over what is there or after it. Where the place is
-/// past their end, zeros lie between. There is room for all of it, so no memory is taken.
+/// Writes `payload` into `bytes` at `place`, overwriting or extending them. If `place` is past the
+/// end, the gap is filled with zeros. There is room for all of it, so no memory is allocated.
 pub(crate) fn lay(bytes: &mut Vec<u8>, place: usize, payload: &[u8])
     requires room { place + length payload.now ≤ vec_capacity bytes.old }
     ensures laid { bytes.new.items ≡ laid place payload.now bytes.old.items }

@@ -5,9 +5,9 @@ use crate::cell::ZoneCell;
 use zns_types::Geometry;
 
 impl ZoneCell {
-    /// Fills `out` with the bytes of `count` blocks from the offset `from` on: zeros for a block
-    /// that wasn't written since the last reset, and for those between the capacity and the zone's
-    /// size.
+    /// Fills `out` with the bytes of `count` blocks starting at offset `from`. Blocks that haven't
+    /// been written since the last reset, and blocks between the capacity and the zone's size, read
+    /// as zeros.
     pub fn get(&self, g: &Geometry, from: u64, count: u32, out: &mut [u8])
         requires kept { IsOf g.now.fields self.now }
         requires within { from + count ≤ g.now.fields.zone_size }

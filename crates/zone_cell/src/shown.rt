@@ -6,11 +6,11 @@ use crate::cell::ZoneCell;
 use zns_types::Geometry;
 use zone_descriptor::Descriptor;
 
-// The pointer means nothing.
+// Shown where the pointer has no meaning.
 const NO_POINTER: u64 = u64::MAX;
 
 impl ZoneCell {
-    /// The zone, as a report shows it.
+    /// The zone's descriptor, as a report shows it.
     pub fn descriptor(&self, g: &Geometry) -> Descriptor
         requires { IsOf g.now.fields self.now }
         ensures { result ≡ descriptor_of g.now.fields self.now }
@@ -25,7 +25,7 @@ impl ZoneCell {
         }
     }
 
-    // The block at the pointer, or all ones where it means nothing.
+    // The block at the pointer, or all ones where the pointer has no meaning.
     fn shown_pointer(&self, first: u64) -> u64
         requires { first < 2 ^ 32 }
         ensures { result ≡ shown_pointer self.now.state first self.now.pointer }

@@ -6,7 +6,7 @@ use drive_rules::Deed;
 use zns_types::State;
 use zone_state::{Action, go};
 
-// The state that an action leads to, and the same state where it leads nowhere.
+// The state that an action leads to, or the same state if it leads nowhere.
 pub fn after(action: Action, state: State) -> State
     ensures { result ≡ after action state }
 {
@@ -16,7 +16,7 @@ pub fn after(action: Action, state: State) -> State
     }
 }
 
-// The state that a write or a commit leads to: a zone whose pointer comes to its capacity is Full.
+// The state that a write or a commit leads to: a zone whose pointer reaches its capacity is Full.
 pub fn state_after(capacity: u64, action: Action, pointer: u64, state: State) -> State
     requires { IsTrue (adds_blocks action) }
     ensures { result ≡ state_after capacity action pointer state }
@@ -27,7 +27,7 @@ pub fn state_after(capacity: u64, action: Action, pointer: u64, state: State) ->
     after(action, state)
 }
 
-// The action that a deed is.
+// The action of a deed.
 pub fn action_of(deed: Deed) -> Action
     ensures { result ≡ action_of deed }
 {

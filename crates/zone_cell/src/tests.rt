@@ -10,7 +10,7 @@ use std::test::Fail;
 use zns_io::Bytes;
 use zns_types::{Code, Geometry, GeometryFields, State};
 
-// Random write areas of 8 blocks, committed by 4, in zones of 48 blocks.
+// Random write areas of 8 blocks, committed 4 at a time, in zones of 48 blocks.
 const SMALL: GeometryFields = GeometryFields {
     block_exp: 9,
     mdts: 0,
@@ -28,13 +28,13 @@ const SMALL: GeometryFields = GeometryFields {
     depth: 64,
 };
 
-// What is done to a zone, or asked of it.
+// Something done to a zone, or checked of it.
 #[derive(Clone, Copy, Debug)]
 enum Step {
-    // A deed, with host data of one byte.
+    // A deed, with host data that repeats one byte.
     Do(Deed, u8),
 
-    // Whether so many blocks from an offset on are of one byte.
+    // Whether some blocks, given by offset and number, hold one byte throughout.
     Read(u32, u32, u8),
 
     // Whether the zone is in a state, with a random write area or without.
@@ -64,7 +64,7 @@ const MISPLACED: Code = Code { sct: 1, sc: 0xbc };
 
 const NO_TRANSITION: Code = Code { sct: 1, sc: 0xbf };
 
-// Not as a test expects.
+// The status of a step that fails its check.
 const WRONG: Code = Code::INVALID_OPCODE;
 
 // An Open with a random write area.
@@ -88,7 +88,7 @@ fn excursion(kind: u8) -> Step {
     Do(Deed::Excursion { kind }, 0)
 }
 
-// Whether host data is of so many blocks, of one at least.
+// Whether host data is exactly `blocks` blocks, and at least one.
 fn has_blocks(g: &Geometry, blocks: u32, payload: &[u8]) -> bool
     ensures { IsTrue result → HasBlocks g.now.fields blocks payload.now }
 {
@@ -169,7 +169,7 @@ fn take(alloc: Global, cell: &mut ZoneCell, g: &Geometry, step: Step) -> Result<
     Ok(if same { DONE } else { WRONG })
 }
 
-// The first row that goes otherwise, on a zone to which nothing was done.
+// The first row that fails, on a new zone.
 fn first_wrong(alloc: Global, rows: &[Row]) -> Result<Option<usize>, Fail> {
     let g = Geometry::new(SMALL)?;
     let mut cell = ZoneCell::new(alloc, &g, 1)?;
@@ -323,7 +323,7 @@ fn a_zone_shows_what_happened_to_it(rt: HostRuntime) -> Result<(), Fail> {
     Ok(())
 }
 
-// Whether a cell of 48 blocks has marked just these.
+// Whether a cell of 48 blocks has marked exactly `blocks`.
 fn has_marked(cell: &ZoneCell, blocks: &[u32]) -> bool {
     let written = cell.written();
     for block in 0..written.len() {

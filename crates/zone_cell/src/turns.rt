@@ -8,8 +8,8 @@ use zns_types::Geometry;
 use zone_state::Action;
 
 impl ZoneCell {
-    /// Does what an action makes of the zone. An Open may ask for a random write area. Of a write
-    /// or a commit this is the state alone.
+    /// Applies an action to the zone. An Open may ask for a random write area. For a write or a
+    /// commit, this changes the state alone.
     pub fn turn(&mut self, g: &Geometry, action: Action, window: bool)
         requires kept { IsOf g.now.fields self.old }
         requires allowed { IsOk (allowed action self.old.state) }
@@ -26,7 +26,7 @@ impl ZoneCell {
         }
     }
 
-    // Opens the zone, with a random write area where one is asked for.
+    // Opens the zone, with a random write area if `window` asks for one.
     fn open(&mut self, window: bool)
         ensures { self.new ≡ after_open window self.old }
     {
@@ -34,7 +34,7 @@ impl ZoneCell {
         self.lead(after(Action::Open, self.state()), self.pointer());
     }
 
-    // The controller itself acts on the zone.
+    // An excursion: the controller itself acts on the zone.
     fn excurse(&mut self, g: &Geometry, kind: u8)
         requires { IsOf g.now.fields self.old }
         ensures { self.new ≡ after_excursion g.now.fields kind self.old }

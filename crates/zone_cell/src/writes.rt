@@ -11,7 +11,7 @@ use zone_state::Action;
 use zrwa_commit::implicit;
 
 impl ZoneCell {
-    // The pointer after a write of `count` blocks from the offset `from` on.
+    // The pointer after a write of `count` blocks starting at offset `from`.
     fn pointer_after(&self, g: &Geometry, from: u64, count: u32) -> u64
         requires kept { IsOf g.now.fields self.now }
         requires admitted { Admits g.now.fields (sight self.now) (deed.Write from count) }
@@ -27,7 +27,7 @@ impl ZoneCell {
         }
     }
 
-    /// Writes host data to the blocks from the offset `from` on.
+    /// Writes host data to the blocks starting at offset `from`.
     pub fn put(&mut self, g: &Geometry, from: u64, payload: &[u8])
         requires kept { IsOf g.now.fields self.old }
         requires blocks { IsBlocks self.old.block_len payload.now }
@@ -42,7 +42,7 @@ impl ZoneCell {
         self.lead(state, pointer);
     }
 
-    /// Writes host data to the blocks from the pointer on, and gives the offset of the first.
+    /// Writes host data to the blocks starting at the pointer, and returns the offset of the first.
     pub fn append(&mut self, g: &Geometry, payload: &[u8]) -> u64
         requires kept { IsOf g.now.fields self.old }
         requires blocks { IsBlocks self.old.block_len payload.now }
@@ -56,7 +56,7 @@ impl ZoneCell {
         from
     }
 
-    /// Commits the blocks of the random write area up to the offset `last`.
+    /// Commits the blocks of the random write area up to and including offset `last`.
     pub fn commit(&mut self, g: &Geometry, last: u64)
         requires kept { IsOf g.now.fields self.old }
         requires admitted { Admits g.now.fields (sight self.old) (deed.Commit last) }

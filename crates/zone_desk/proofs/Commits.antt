@@ -45,7 +45,7 @@ stands_more log standings a live q (Joined own seen) at h =
 
 -- ---- the cells
 
--- a zone whose word the committing seat does not hold stays as it was
+-- a zone whose word the committing seat doesn't hold is unchanged
 abbrev Untouched : GeometryFields → Holders → ℕ → List Act → Act → Type 0
 Untouched g holders id log a = (z : ℕ) (h : Option ℕ) → get_elem? holders z ≡ some h → h ≢ Some id → zone_at g (log ++ a ∷ []) z ≡ zone_at g log z
 
@@ -54,7 +54,7 @@ home_after : (g : GeometryFields) (homes : Homes) (holders : Holders) (id : ℕ)
 home_after g homes holders id log a z None still at home = home ∙ ap (λ (c : Cell). some (some (Zone c))) (sym (still z None at (λ e. cc e)))
 home_after g homes holders id log a z (Some j) still at home = home
 
--- what stands in the cells of a longer log stood there before
+-- each of the cells after these acts is of a zone that had one there before
 record Remade (g : GeometryFields) (log : List Act) (cells : List Cell) (i : ℕ) (c : Cell) : Type 0 where
   old : Cell
   at : get_elem? cells i ≡ some old

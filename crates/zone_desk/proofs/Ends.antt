@@ -1,4 +1,4 @@
--- The end of a desk.
+-- Closing a desk.
 use Rattle.std.proofs.Common.{◌≡◌, ◌≢◌, ℕ, zero, suc, ◌+◌, ◌≤◌, List, [], ◌∷◌, ◌++◌, length, Option, Some, None, refl, ap, sym, ◌∙◌, subst, arith, add-zero, append-nil, ⊎_elim}
 use mathlib.Core.Option.{none, some, some-injective, some-ne-none}
 use mathlib.Core.Option as maybe
@@ -27,7 +27,7 @@ use Rattle.zone_desk.proofs.Seats.{no_zone}
 abbrev St : Type 0
 St = State Slot Sight
 
--- ---- where no queue has a pass any more
+-- ---- once no queue has a pass
 
 spares_none : (l : List Sight) → ((j : ℕ) (u : Sight) → get_elem? l j ≡ some u → u.spare ≡ 0) → spares l ≡ 0
 spares_none [] h = refl
@@ -46,7 +46,7 @@ spares_one (x ∷ xs) (suc i) v e h =
 idle_at : (plan : Plan) (s : St) (r : Rule plan s) → NoneLive r.standings → (id : ℕ) (v : Sight) → get_elem? s.views id ≡ some v → (v.journal ≡ None) × (v.cells ≡ [])
 idle_at plan s r empty id v at = let f = r.each id v at in f.idle (λ q. empty v.queue (f.queue q).0)
 
--- nobody holds a word
+-- no seat holds a word
 no_book : (plan : Plan) (s : St) (r : Rule plan s) → NoneLive r.standings → (h : Option ℕ) → IsOut HasBook h s.views → h ≡ None
 no_book plan s r empty None out = refl
 no_book plan s r empty (Some k) out = absurd (out.2 (idle_at plan s r empty k out.0 out.1).0)
@@ -55,7 +55,7 @@ no_cell : (plan : Plan) (s : St) (r : Rule plan s) → NoneLive r.standings → 
 no_cell plan s r empty z None out = refl
 no_cell plan s r empty z (Some k) out = no_zone out.0 (idle_at plan s r empty k out.0 out.1).1 out.2
 
--- no seat but the main one has room
+-- no seat other than the main one has room
 no_room : (plan : Plan) (s : St) (r : Rule plan s) (id : ℕ) → id ≡ 0 → NoneLive r.standings → (j : ℕ) (u : Sight) → j ≢ id → get_elem? s.views j ≡ some u → (k : Kind) → u.kind ≡ k → u.spare ≡ 0
 no_room plan s r id first empty j u ne e Main k = absurd (ne (((r.each j u e).main k).0 ∙ sym first))
 no_room plan s r id first empty j u ne e Queue k = absurd (empty u.queue ((r.each j u e).queue k).0)

@@ -1,4 +1,4 @@
--- A pass that gives a part back keeps the rule.
+-- Giving a part back keeps the rule.
 use Rattle.std.proofs.Common.{◌≡◌, ◌≢◌, ℕ, zero, suc, Bool, true, false, cond, List, ◌∷◌, length, set, Option, Some, None, refl, ap, sym, ◌∙◌, subst, arith, suc-ne-zero, length-set, ⊎_elim}
 use mathlib.Core.Option.{none, some, some-injective}
 use mathlib.Core.List.{IsPrefix}

@@ -1,4 +1,4 @@
--- A pass that takes a word keeps the rule.
+-- Taking a word keeps the rule.
 use Rattle.std.proofs.Common.{◌≡◌, ◌≢◌, ℕ, zero, suc, ◌+◌, ◌<◌, eqb, Bool, true, false, List, ◌∷◌, length, get_or, set, Option, Some, None, refl, ap, sym, ◌∙◌, subst, arith, suc-ne-zero, length-set, ⊎_elim}
 use mathlib.Core.Option.{none, some, some-injective}
 use mathlib.Core.Option as maybe
@@ -38,9 +38,9 @@ Holders = List (Option ℕ)
 abbrev Goes : Plan → St → ℕ → ℕ → Mine → (Mine → Type 0) → ℕ → Type 0
 Goes plan s i id me then x = (w : Sight) × (a : Move Slot) × Valid s.homes me.1 a × Rule plan (stepped s i x id me.1 w a) × then (w, carried_after me.1 a)
 
--- ---- a step that changes a view alone
+-- ---- a step that changes only a view
 
--- it stays of its queue
+-- a pass afterwards was one of the same queue before
 abbrev Same : Sight → Sight → Type 0
 Same v w = w.kind ≡ Queue → (v.kind ≡ Queue) × (w.queue ≡ v.queue)
 
@@ -71,7 +71,7 @@ looks plan s r i id v w near at fits spare same book cells =
 word_count : (plan : Plan) (s : St) (r : Rule plan s) → length s.words ≡ suc (length s.homes)
 word_count plan s r = ap (λ (ws : List ℕ). length ws) r.words ∙ ap (λ (n : ℕ). suc (suc n)) (length-map r.holders word_of) ∙ ap suc (sym r.wide)
 
--- what a take that found its word held leaves true
+-- what stays true after a take that found its word held
 record Misses (plan : Plan) (id : ℕ) (v w : Sight) : Type 0 where
   fits : (log : List Act) (standings : List Standing) (holder : Option ℕ) (holders : Holders) → Fits plan log standings holder holders id v → Fits plan log standings holder holders id w
   spare : w.spare ≡ v.spare
@@ -206,7 +206,7 @@ zone_none plan s r z None e found = e
 zone_none plan s r z (Some j) e found =
     let n : 1 ≡ 0 = sym (map_at word_of r.holders z (Some j) e) ∙ (sym (ap (λ (ws : List ℕ). get_or ws (suc (suc z)) 0) r.words) ∙ found) in absurd (suc-ne-zero 0 n)
 
--- the zone's word becomes 1 where it was free, and else the view becomes w
+-- the zone's word becomes 1 if it was free, and otherwise the view becomes w
 zone_taken : (plan : Plan) (slots id z : ℕ) (me : Mine) → me.0.geometry ≡ plan.fields → (w : Sight) (then : ℕ → Mine → Type 0) → me.0.kind ≡ Queue → z + 1 < slots
     → ((x : ℕ) (m' : Mine) → x ≡ 0 → TookZone (z + 2) me m' → then x m') → ((x : ℕ) → x ≢ 0 → then x (w, me.1))
     → ((log : List Act) (standings : List Standing) (holder : Option ℕ) (holders : Holders) → Fits plan log standings holder holders id me.0 → Fits plan log standings holder holders id w) → w.spare ≡ me.0.spare → Same me.0 w → (HasBook me.0 → HasBook w) → ((z : ℕ) → HasCell z me.0 → HasCell z w)
@@ -317,7 +317,7 @@ book_none plan s r None e found = e
 book_none plan s r (Some j) e found =
     let n : 1 ≡ 0 = sym (ap (λ (ws : List ℕ). get_or ws 1 0) r.words ∙ ap word_of e) ∙ found in absurd (suc-ne-zero 0 n)
 
--- the book's word becomes 1 where it was free, and else the view becomes w
+-- the book's word becomes 1 if it was free, and otherwise the view becomes w
 book_taken : (plan : Plan) (slots id : ℕ) (me : Mine) → me.0.geometry ≡ plan.fields → (w : Sight) (then : ℕ → Mine → Type 0) → me.0.kind ≡ Queue → ((x : ℕ) (m' : Mine) → x ≡ 0 → TookBook me m' → then x m') → ((x : ℕ) → x ≢ 0 → then x (w, me.1))
     → ((log : List Act) (standings : List Standing) (holder : Option ℕ) (holders : Holders) → Fits plan log standings holder holders id me.0 → Fits plan log standings holder holders id w) → w.spare ≡ me.0.spare → Same me.0 w → (HasBook me.0 → HasBook w) → ((z : ℕ) → HasCell z me.0 → HasCell z w)
     → Allows (Rule plan) slots id me 1 (λ n. either (eqb n 0) 1 n) then

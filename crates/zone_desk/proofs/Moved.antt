@@ -1,4 +1,4 @@
--- Commands whose bytes have moved before the book was taken.
+-- Commands whose bytes moved before the book was taken.
 use Rattle.std.proofs.Common.{◌≡◌, List, ℕ, length, Option, Some, None, sym, ap, ◌∙◌, subst}
 use Rattle.zns_types.specs.declared.fields.GeometryFields.{GeometryFields}
 use Rattle.sqe_codec.specs.declared.sqe.Sqe.{Sqe}
@@ -36,7 +36,7 @@ is-told g a view cells' out out' r moves log at =
     let m = moves log (at-in_order g log view at) in
     record { len = m.due.stands.outcome.len; read = m.read }
 
--- what a pass bears after a command's bytes moved, or it was another command
+-- the cells in a pass after a command's bytes moved, or after a command that doesn't go ahead
 pub bears-after : (g : GeometryFields) (queue : ℕ) (sqe : Sqe) (payload : List ℕ) (view cells cells' : List Cell) (out out' : List ℕ) (r : Option Ready) (opened : Option Open) → length payload ≡ transfer_len g (command_of (act_of queue sqe payload)) → AreLent g (act_of queue sqe payload) (zones_in (in_order view)) → cells ≡ in_order view
     → Readies g (act_of queue sqe payload) cells cells' out out' r → opened ≡ opened_by sqe payload r → Bears g queue opened view cells'
 bears-after g queue sqe payload view cells cells' out out' None opened len lent plain waits is = subst (λ (o : Option Open). Bears g queue o view cells') (sym is) (waits.same_cells ∙ plain)
@@ -44,7 +44,7 @@ bears-after g queue sqe payload view cells cells' out out' (Some r) opened len l
     let a : Act = act_of queue sqe payload in
     subst (λ (o : Option Open). Bears g queue o view cells') (sym is) (has-moved g a (in_order view) cells' out out' r len lent (subst (λ (l : List Cell). Moves g a l cells' out out' r) plain ready.moves))
 
--- a pass of which a command's bytes moved, or it was another command
+-- a pass after a command's bytes moved, or after a command that doesn't go ahead
 pub readied : (p q : Pass) (sqe : Sqe) (payload : List ℕ) (cells' : List Cell) (out out' : List ℕ) (r : Option Ready) (opened : Option Open) → p.opened ≡ None → q ≡ with_open p opened → opened ≡ opened_by sqe payload r
     → Readies p.desk.geometry (act_of p.sight.queue sqe payload) (in_order p.sight.cells) cells' out out' r → HasReadied p q sqe payload out out' r
 readied p q sqe payload cells' out out' None opened none view is waits = record { other = waits.other; pass = view ∙ ap (λ (o : Option Open). with_open p o) (is ∙ sym none); unread = waits.same_out }

@@ -1,4 +1,4 @@
--- A pass that makes a note, and one that is told of it, keep the rule.
+-- Making a note, and telling a pass of one, keep the rule.
 use Rattle.std.proofs.Common.{◌≡◌, ℕ, Bool, true, false, cond, leb, List, length, set, refl, sym, ◌∙◌, arith, leb-true}
 use mathlib.Core.Option.{some, some-ne-none}
 use mathlib.Core.List.{IsPrefix}
@@ -61,7 +61,7 @@ remembering plan id v s r at =
 shorter_either : (xs ys log : List Act) → IsPrefix xs log → IsPrefix ys log → IsPrefix (shorter xs ys) log
 shorter_either xs ys log p q = elim (leb (length xs) (length ys)) as (λ b. IsPrefix (cond b xs ys) log) [ true ↦ p | false ↦ q ]
 
--- the longer of two beginnings of a journal has the queue's acts, if the first has all of them
+-- the longer of two prefixes of a journal has the queue's acts, if the first has all of them
 longer_own : (q : ℕ) (xs ys log own : List Act) → IsPrefix xs log → IsPrefix ys log → acts_of q log ≡ own → acts_of q xs ≡ own → (b : Bool) → leb (length xs) (length ys) ≡ b → acts_of q (cond b ys xs) ≡ own
 longer_own q xs ys log own p r all mine true is = acts_of-between q xs ys log own (prefix_shorter xs ys log p r (leb-true (length xs) (length ys) is)) r mine all
 longer_own q xs ys log own p r all mine false is = mine

@@ -33,7 +33,7 @@ pub ledger-journal : (g : GeometryFields) (j : KeptActs) → (ledger_at g j).jou
 unfolding ledger_at
 ledger-journal g j = refl
 
--- what is the book of a journal is that of its own
+-- the book of a journal is the book of its own journal
 pub ledger-own : (g : GeometryFields) (b : Book) (j : KeptActs) → b ≡ ledger_at g j → b ≡ ledger_at g b.journal
 ledger-own g b j is = is ∙ ap (ledger_at g) (sym (ap (λ (x : Book). x.journal) is ∙ ledger-journal g j))
 
@@ -59,7 +59,7 @@ journal-more room log a =
 pub at-zone : (g : GeometryFields) (log : List Act) (z : ℕ) → (zone_at g log z).zone ≡ z
 at-zone g log z = zone-cell g (answered g log) z
 
--- cells that are each that of its zone
+-- cells, each of which is its zone's
 pub all-at : (g : GeometryFields) (log : List Act) (cells : List Cell) → ((i : ℕ) (c : Cell) → get_elem? cells i ≡ some c → c ≡ zone_at g log c.zone) → AreAt g log cells
 all-at g log [] each = refl
 all-at g log (c ∷ cs) each =
@@ -67,7 +67,7 @@ all-at g log (c ∷ cs) each =
     let others = all-at g log cs (λ i d e. each (suc i) d e) in
     λ i. first i ∷ others i
 
--- a zone is among the cells or is not
+-- a zone is among the cells or isn't
 pub has-zone : (z : ℕ) (cells : List Cell) → list_any (λ y. y == z) (zones_in cells) ≡ true → HasZone z cells
 has-zone z [] e = absurd (cc e)
 has-zone z (c ∷ cs) e = ⊎_elim (λ (is : (c.zone == z) ≡ true). (0, (c, refl, eqb-true c.zone z is))) (λ (ne : (c.zone == z) ≡ false). let rest : list_any (λ y. y == z) (zones_in cs) ≡ true = rw ne at e in let h = has-zone z cs rest in (suc h.0, h.1)) (cases_Bool (c.zone == z))
@@ -75,14 +75,14 @@ has-zone z (c ∷ cs) e = ⊎_elim (λ (is : (c.zone == z) ≡ true). (0, (c, re
 all-have : (g : GeometryFields) (z : ℕ) (cells : List Cell) → zones_in cells ≡ zones g → z < g.zones → HasZone z cells
 all-have g z cells is lt = has-zone z cells (ap (list_any (λ y. y == z)) is ∙ range-has 0 g.zones z (omega arith) (omega arith))
 
--- a zone out of reach stays, where no zone gives way
+-- a zone out of reach doesn't change, if no zone gives way
 stays : (g : GeometryFields) (log : List Act) (a : Act) (z : ℕ) → z < g.zones → is_reached g a z ≡ false → wants_room g log a ≡ false → zone_at g (log ++ a ∷ []) z ≡ zone_at g log z
 stays g log a z lt away none =
     let h : List Place = answered g log in
     let kept : is_zone z (evicted g h a) ≡ false = ap (is_zone z) (none_gives_way g h a none).evicted in
     ap (λ (x : List Place). cell_at g x z) (answered-push g log a) ∙ cell-idle g h a z (untouched_is_idle g h a z lt away kept)
 
--- the cells of an act's reach, where no zone gives way, and those of all zones, cover what the act changes
+-- the cells of an act's reach, if no zone gives way, and those of all zones, cover what the act changes
 pub covering : (g : GeometryFields) (log : List Act) (a : Act) (cells : List Cell) → AreLent g a (zones_in cells) → (zones_in cells ≡ zones g) ⊎ (wants_room g log a ≡ false) → Covers g log a cells
 covering g log a cells lent wide z lt = ⊎_elim (λ (all : zones_in cells ≡ zones g). inl (all-have g z cells all lt)) (λ (none : wants_room g log a ≡ false). reached lent none (cases_Bool (is_reached g a z))) wide
   where

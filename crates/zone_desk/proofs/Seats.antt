@@ -1,4 +1,4 @@
--- A desk begins with its rule, and keeps it where a pass is made or joined.
+-- The rule holds for a new desk, and making or joining a pass keeps it.
 use Rattle.std.proofs.Common.{◌≡◌, ◌≢◌, ℕ, zero, suc, ◌+◌, ◌-◌, ◌^◌, ◌<◌, ◌≤◌, true, false, cond, leb, List, [], ◌∷◌, length, map, set, replicate, Option, Some, None, refl, ap, sym, ◌∙◌, subst, arith, length-set, ⊎_elim}
 use Rattle.std.specs.List.{range_with_len}
 use mathlib.Core.Option.{some, some-injective, some-ne-none}

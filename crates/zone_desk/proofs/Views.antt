@@ -1,4 +1,4 @@
--- What stays of the views where one changes, or one is added.
+-- What stays true of the views when one changes or is added.
 use Rattle.std.proofs.Common.{◌≡◌, ◌≢◌, ℕ, zero, suc, ◌+◌, ◌<◌, ◌≤◌, ◌⊎◌, List, [], ◌∷◌, ◌++◌, length, map, get_or, set, Option, Some, None, refl, ap, sym, ◌∙◌, subst, arith, inl, inr, ⊎_elim}
 use mathlib.Core.Option.{some, some-injective, some-ne-none}
 use mathlib.Core.Logic.{dite}
@@ -31,7 +31,7 @@ module _ {A : Type 0} where
   at_end (x ∷ xs) a b zero e = inl e
   at_end (x ∷ xs) a b (suc j) e = ⊎_elim inl (λ (t : (j ≡ length xs) × (a ≡ b)). inr ((let h = t.0 in omega arith), t.1)) (at_end xs a b j e)
 
-  -- what holds of each other member, and of the new one, holds of each
+  -- what holds of each other member, and of the new one, holds of all
   pub each_set : (P : ℕ → A → Type 0) (l : List A) (id : ℕ) (w : A) → ((j : ℕ) (u : A) → j ≢ id → get_elem? l j ≡ some u → P j u) → P id w
       → (j : ℕ) (u : A) → get_elem? (set l id w) j ≡ some u → P j u
   each_set P l id w others mine j u e =
@@ -52,7 +52,7 @@ module _ {A : Type 0} where
   map_at f (x ∷ xs) zero a e = ap f (some-injective x a e)
   map_at f (x ∷ xs) (suc i) a e = map_at f xs i a e
 
-  -- what stands in a mapped list was made of what stood there
+  -- each member of a mapped list was made from the member at its place
   pub map_back : {B : Type 0} (f : A → B) (l : List A) (i : ℕ) (b : B) → get_elem? (map f l) i ≡ some b → (a : A) × ((get_elem? l i ≡ some a) × (f a ≡ b))
   map_back f [] i b e = absurd (some-ne-none b (sym e))
   map_back f (x ∷ xs) zero b e = (x, (refl, some-injective (f x) b e))
@@ -81,7 +81,7 @@ spare_le (x ∷ xs) (suc i) v e = let r = spare_le xs i v e in omega arith
 
 -- ---- one pass for each queue
 
--- a pass that stays of its queue, or is none any more, keeps each queue's pass alone
+-- each queue still has at most one pass if the changed seat stays of its queue, or is no pass any more
 pub alone_set : (views : List Sight) (id : ℕ) (v w : Sight) → get_elem? views id ≡ some v → (w.kind ≡ Queue → (v.kind ≡ Queue) × (w.queue ≡ v.queue)) → Alone views → Alone (set views id w)
 alone_set views id v w at same al i j a b ea eb ka kb q =
     ⊎_elim
@@ -99,7 +99,7 @@ alone_set views id v w at same al i j a b ea eb ka kb q =
     (at_set views id j w b eb))
     (at_set views id i w a ea)
 
--- so does a new one, where no pass has its queue, or it is no pass
+-- and if a seat is added that is no pass, or whose queue has none
 pub alone_end : (views : List Sight) (w : Sight) → ((j : ℕ) (u : Sight) → get_elem? views j ≡ some u → u.kind ≡ Queue → w.kind ≡ Queue → u.queue ≢ w.queue) → Alone views → Alone (views ++ w ∷ [])
 alone_end views w new al i j a b ea eb ka kb q =
     ⊎_elim

@@ -1,4 +1,4 @@
--- What lies behind the lock words: the cell of each zone, and the book.
+-- What the lock words guard: the cell of each zone, and the book.
 use Rattle.std.specs.Prelude.{◌≡◌, ℕ, ◌-◌, ◌<◌, List, [], ◌∷◌, ◌++◌, length, drop, Bool, ◌⊎◌}
 use mathlib.Core.Option.{some}
 use lib.ListN.{get_elem?}
@@ -37,11 +37,11 @@ HasZone z cells = (i : ℕ) × ((c : Cell) × (get_elem? cells i ≡ some c) × 
 abbrev pub HasBeen : GeometryFields → List Cell → Type 0
 HasBeen g cells = HaveHistory g cells
 
--- The act that comes after these leaves each zone as it was, other than those of the cells.
+-- The act that comes after these changes no zone other than those of the cells.
 abbrev pub Covers : GeometryFields → List Act → Act → List Cell → Type 0
 Covers g acts a cells = (z : ℕ) → z < g.zones → HasZone z cells ⊎ (zone_at g (acts ++ a ∷ []) z ≡ zone_at g acts z)
 
--- another zone has to give way to an act that comes after these, or it is refused
+-- another zone has to give way to this act after these, or the act is refused
 abbrev pub wants_room : GeometryFields → List Act → Act → Bool
 wants_room g log a = act_wants_room g (answered g log) a
 
@@ -61,12 +61,12 @@ journal_at room acts = record { acts = acts; spare = room - length acts }
 
 -- ---- answers
 
--- An act was answered as the definitions say of it after the acts of a journal, beside the bytes that it reads.
+-- An act was answered as the definitions say after the acts of a journal, except for the bytes that it reads.
 pub record IsEntered (g : GeometryFields) (j : KeptActs) (a : Act) (p : Posted) : Type 0 where
   pub entries : p.entries.items ≡ entries_for (drive_of g j) a
   pub len : p.len ≡ length (bytes_for (drive_of g j) a)
 
--- An act was answered as the definitions say of it after the acts of a journal.
+-- An act was answered as the definitions say after the acts of a journal.
 pub record IsAnswered (g : GeometryFields) (j : KeptActs) (a : Act) (p : Posted) (out out' : List ℕ) : Type 0 where
   pub entries : p.entries.items ≡ entries_for (drive_of g j) a
   pub len : p.len ≡ length (bytes_for (drive_of g j) a)

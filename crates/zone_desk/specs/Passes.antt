@@ -36,12 +36,12 @@ use Rattle.zone_desk.specs.declared.sight.Standing.{Standing}
 use Rattle.zone_desk.specs.declared.sight.Standing.TheVariants.{Free, Live, Joined}
 use Rattle.zone_desk.specs.declared.sight.Sight.{Sight}
 
--- which desk it is, and its drive's numbers
+-- which desk it is, and its drive's geometry
 pub record DeskId : Type 0 where
   pub table : TableId
   pub geometry : GeometryFields
 
--- the desk that a pass is of, what the pass knows, and its open command
+-- the desk of a pass, what the pass knows, and its open command
 pub record Pass : Type 0 where
   pub desk : DeskId
   pub sight : Sight
@@ -66,19 +66,19 @@ abbrev pub IsAbove : ℕ → List Cell → Type 0
 IsAbove word [] = Unit {0}
 IsAbove word (c ∷ cs) = c.zone + 2 < word
 
--- The word is that of a zone above those that the pass has, or the book's, which it doesn't hold yet. While a command is
--- open no zone is added.
+-- The word is the book's, or that of a zone above those that the pass has. The pass doesn't have the book, and while a command is open it
+-- takes no more zones.
 pub record MayTake (g : GeometryFields) (p : Pass) (word : ℕ) : Type 0 where
   pub before_book : p.sight.journal ≡ None
   pub within : (1 ≤ word) × (word < g.zones + 2)
   pub rising : word ≢ 1 → IsAbove word p.sight.cells
   pub none_open : word ≢ 1 → p.opened ≡ None
 
--- The pass has the zone's cell. All else stays.
+-- The pass has the zone's cell. Nothing else changed.
 abbrev pub HasTakenZone : ℕ → Pass → Pass → Type 0
 HasTakenZone zone p p' = (c : Cell) × (c.zone ≡ zone) × (p' ≡ knowing p (with_cells p.sight (c ∷ p.sight.cells)))
 
--- The pass has the book, and was told that it is fresh. All else stays.
+-- The pass has the book, and was told that it is fresh. Nothing else changed.
 abbrev pub HasTakenBook : Pass → Pass → Type 0
 HasTakenBook p p' = (j : KeptActs) × (p' ≡ knowing p (with_journal p.sight j)) × IsFresh p.desk.geometry p.sight j
 
@@ -87,14 +87,14 @@ pub record HasTaken (word : ℕ) (p p' : Pass) : Type 0 where
   pub book : word ≡ 1 → HasTakenBook p p'
   pub zone : (z : ℕ) → word ≡ z + 2 → HasTakenZone z p p'
 
--- One commit added the act to the journal that the pass has, and it was answered as the definitions say of it there.
--- The pass has all zones, or no other has to give way.
+-- One commit added the act to the journal that the pass has, and it was answered as the definitions say there. The pass has all zones, or
+-- no other zone has to give way.
 pub record IsCommitted (p p' : Pass) (a : Act) (posted : Posted) (out out' : List ℕ) : Type 0 where
   pub pass : p' ≡ knowing p (committed p.sight a)
   pub answer : (j : KeptActs) → p.sight.journal ≡ Some j → IsAnswered p.desk.geometry j a posted out out'
   pub wide : (zones_held p.sight ≡ zones p.desk.geometry) ⊎ (wants_room p.desk.geometry (log_of p.sight) a ≡ false)
 
--- Another zone has to give way, and the pass doesn't have all: nothing changed.
+-- Another zone has to give way, and the pass doesn't have all zones: nothing changed.
 pub record IsNarrow (p p' : Pass) (a : Act) (payload out out' : List ℕ) : Type 0 where
   pub pass : p' ≡ p
   pub bytes : payload ≡ a.payload
@@ -108,18 +108,18 @@ HasApplied p p' a out out' (applied.Widen payload) = IsNarrow p p' a payload out
 
 -- ---- commands that move their bytes before the book is taken
 
--- after these acts the act goes ahead, or waits for the book
+-- whether the act goes ahead of the book after these acts
 abbrev pub IsAheadAt : GeometryFields → List Act → Act → Bool → Type 0
 IsAheadAt g log a b = goes_ahead g (opened_at g (answered g log)) (command_of a) ≡ b
 
--- The command is open. What the cells of the view stand for isn't known yet: for each list of acts that they do, this is
--- what the act reads after them.
+-- The command is open. It isn't known yet which acts the cells of the view stand for: for each such list, this is what the act reads after
+-- it.
 pub record IsReadied (p p' : Pass) (o : Open) (out out' : List ℕ) : Type 0 where
   pub pass : p' ≡ with_open p (Some o)
   pub ahead : (log : List Act) → AreAt p.desk.geometry log p.sight.cells → IsAheadAt p.desk.geometry log (open_act p.sight.queue o) true
   pub told : (log : List Act) → AreAt p.desk.geometry log p.sight.cells → IsTold p.desk.geometry (open_act p.sight.queue o) log o.ready out out'
 
--- Nothing changed: the command is another one, as its zone's cell shows.
+-- Nothing changed: as its zone's cell shows, the command doesn't go ahead of the book.
 pub record IsWaiting (p p' : Pass) (a : Act) (out out' : List ℕ) : Type 0 where
   pub other : GoesAhead p.desk.geometry a (in_order p.sight.cells) false
   pub pass : p' ≡ p
@@ -129,8 +129,8 @@ abbrev pub HasReadied : Pass → Pass → Sqe → List ℕ → List ℕ → List
 HasReadied p p' sqe payload out out' (Some r) = IsReadied p p' record { sqe = sqe; payload = payload; ready = r } out out'
 HasReadied p p' sqe payload out out' None = IsWaiting p p' (act_of p.sight.queue sqe payload) out out'
 
--- One commit added the act of the open command to the journal that the pass has, and it was answered as the definitions
--- say of it there. No other zone has to give way.
+-- One commit added the act of the open command to the journal that the pass has, and it was answered as the definitions say there. No other
+-- zone has to give way.
 pub record HasSettled (p p' : Pass) (a : Act) (posted : Posted) : Type 0 where
   pub pass : p' ≡ with_open (knowing p (committed p.sight a)) None
   pub entered : (j : KeptActs) → p.sight.journal ≡ Some j → IsEntered p.desk.geometry j a posted
@@ -152,7 +152,7 @@ abbrev pub IsCarried : Sight → Option Book → Option KeptActs → Type 0
 IsCarried v book None = book ≡ None
 IsCarried v book (Some j) = (book ≡ Some (ledger_at v.geometry j)) × (v.spare ≤ j.spare) × (length j.acts + j.spare < 2 ^ 32) × AreAt v.geometry j.acts v.cells
 
--- each was taken after those behind it, which are of lower zones
+-- each was taken after those that follow it in the list, of lower zones, so its zone is at least their count
 abbrev pub AreRising : List Cell → Type 0
 AreRising [] = Unit {0}
 AreRising (c ∷ cs) = (length cs ≤ c.zone) × AreRising cs
@@ -162,8 +162,8 @@ abbrev pub AreWithin : ℕ → List Cell → Type 0
 AreWithin words [] = Unit {0}
 AreWithin words (c ∷ cs) = (c.zone + 2 < words) × AreWithin words cs
 
--- What a pass has is what its view says, but for what its open command made of the cells. There are acts that the cells of
--- the view stand for.
+-- What a pass has is what its view says, except for what its open command made of the cells. There are acts that the cells of the view
+-- stand for.
 pub record Carries (words : ℕ) (opened : Option Open) (book : Option Book) (cells : List Cell) (me : Mine) : Type 0 where
   pub book_is : IsCarried me.0 book me.0.journal
   pub cells_are : Bears me.0.geometry me.0.queue opened me.0.cells cells
@@ -172,8 +172,8 @@ pub record Carries (words : ℕ) (opened : Option Open) (book : Option Book) (ce
   pub rising : AreRising me.0.cells
   pub within : AreWithin words me.0.cells
 
--- a word and a place for each zone of the drive and for the book, a count of those who wait for each word, and room for
--- the cells at the end
+-- a word for the history, a word and a place for the book and for each zone of the drive, a count of the waiters for each word, and room
+-- for the cells at the end
 pub record DeskStands (table : TableId) (g : GeometryFields) (plan : Plan) (shelf : Vec Cell) (counts : ℕ) : Type 0 where
   pub words : table.words ≡ g.zones + 2
   pub slots : table.slots ≡ g.zones + 1
@@ -248,7 +248,7 @@ Distinct ps = (i j : ℕ) (p q : Pass) → get_elem? ps i ≡ some p → get_ele
 abbrev pub AllLive : List Standing → List Pass → Type 0
 AllLive standings ps = (queue : ℕ) → get_elem? standings queue ≡ some Live → (i : ℕ) × ((p : Pass) × (get_elem? ps i ≡ some p) × (p.sight.queue ≡ queue))
 
--- these are the passes that were made
+-- these are exactly the passes that were made
 pub record Exactly (standings : List Standing) (ps : List Pass) : Type 0 where
   pub distinct : Distinct ps
   pub all : AllLive standings ps
@@ -257,7 +257,7 @@ pub record Exactly (standings : List Standing) (ps : List Pass) : Type 0 where
 abbrev pub NoneLive : List Standing → Type 0
 NoneLive standings = (queue : ℕ) → get_elem? standings queue ≢ some Live
 
--- what the main seat knows when these passes were joined
+-- what the main seat knows once these passes were joined
 abbrev pub absorbed : Sight → List Pass → Sight
 absorbed v [] = v
 absorbed v (p ∷ ps) = absorbed (joined v p.sight) ps
@@ -266,7 +266,7 @@ abbrev pub spare_of : List Pass → ℕ
 spare_of [] = 0
 spare_of (p ∷ ps) = p.sight.spare + spare_of ps
 
--- What each pass has seen is a beginning of the journal, which has of its queue the pass's own acts.
+-- What each pass has seen is a prefix of the journal, whose acts of its queue are the pass's own.
 abbrev pub HaveKnown : List Act → List Pass → Type 0
 HaveKnown log ps = (i : ℕ) (p : Pass) → get_elem? ps i ≡ some p → IsPrefix p.sight.seen log × (acts_of p.sight.queue log ≡ p.sight.own)
 
@@ -274,7 +274,7 @@ HaveKnown log ps = (i : ℕ) (p : Pass) → get_elem? ps i ≡ some p → IsPref
 abbrev pub NoOthers : List Act → List Standing → Type 0
 NoOthers log standings = (queue : ℕ) → get_elem? standings queue ≢ some Live → acts_of queue log ≡ []
 
--- a journal without a pass has the acts of the passes that were joined, and no others
+-- once no pass is left, the journal has the acts of the passes that were joined, and no others
 pub record Ends (v : Sight) (j : KeptActs) : Type 0 where
   pub spare : j.spare ≡ v.spare
   pub small : length j.acts + j.spare < 2 ^ 32
@@ -284,10 +284,10 @@ pub record Ends (v : Sight) (j : KeptActs) : Type 0 where
 
 -- ---- the places of a desk that was closed
 
--- the places after the first have the cells of so many zones after these acts
+-- the `n` places after the first have the cells of the first `n` zones after these acts
 abbrev pub AreShelved : GeometryFields → List Act → List Slot → ℕ → Type 0
 AreShelved g log parts n = (z : ℕ) → z < n → get_elem? parts (suc z) ≡ some (Zone (zone_at g log z))
 
--- the places after the first have cells
+-- the `n` places after the first have cells
 abbrev pub HaveCells : List Slot → ℕ → Type 0
 HaveCells parts n = (z : ℕ) → z < n → (c : Cell) × (get_elem? parts (suc z) ≡ some (Zone c))

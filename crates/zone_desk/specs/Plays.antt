@@ -17,8 +17,8 @@ use Rattle.zone_desk.specs.declared.sight.Sight.{Sight}
 abbrev pub Mine : Type 0
 Mine = Me Slot Sight
 
--- The journal of a book that a seat has just taken: what the seat has seen is a beginning of it, its queue's acts are
--- the seat's own, it has room for all that the seat may add, and each cell that the seat has is still that of its acts.
+-- The journal of a book that a seat has just taken: what the seat has seen is a prefix of it, its queue's acts are the seat's own, it has
+-- room for all that the seat may add, and each cell that the seat has is still that of its acts.
 pub record IsFresh (g : GeometryFields) (v : Sight) (j : KeptActs) : Type 0 where
   pub seen : IsPrefix v.seen j.acts
   pub own : acts_of v.queue j.acts ≡ v.own
@@ -34,7 +34,7 @@ TookBook m m' = (j : KeptActs) × (m'.0 ≡ with_journal m.0 j) × (m'.1 ≡ (0,
 abbrev pub TookZone : ℕ → Mine → Mine → Type 0
 TookZone word m m' = (c : Cell) × (m'.0 ≡ with_cells m.0 (c ∷ m.0.cells)) × (m'.1 ≡ (suc c.zone, Zone c) ∷ m.1) × (c.zone + 2 ≡ word) × HasBeen m.0.geometry (c ∷ m.0.cells)
 
--- takes: where the word was held, that is counted, or nothing changed
+-- a take of the book: if the word was held, that is counted, or nothing changed
 abbrev pub TakesBook : Bool → Step Slot → Mine → ℕ → Mine → Type 0
 TakesBook counts step m found m' = (found ≡ 0 → TookBook m m') × (found ≢ 0 → m' ≡ (missed_if counts m.0 step.word, m.1))
 
@@ -50,10 +50,10 @@ FreesBook step m found m' = m' ≡ (gave m.0, rest m.1)
 abbrev pub FreesZone : Step Slot → Mine → ℕ → Mine → Type 0
 FreesZone step m found m' = m' ≡ (without_last m.0, rest m.1)
 
--- What it was told of last, where it is no longer than what it has seen, is a beginning of that.
+-- What it was told of last is a prefix of what it has seen, if it is no longer than that.
 abbrev pub Compares : Step Slot → Mine → ℕ → Mine → Type 0
 Compares step m found m' = (m' ≡ m) × (length m.0.heard ≤ length m.0.seen → IsPrefix m.0.heard m.0.seen)
 
--- stands where a commit is not told which act it adds
+-- a placeholder, where a commit isn't told which act it adds
 abbrev pub no_act : Act
 no_act = record { queue = 0; sqe = record { bytes = replicate 64 0 }; payload = [] }

@@ -21,12 +21,12 @@ use Rattle.zone_desk.specs.declared.sight.Sight.{Sight}
 
 -- ---- words and places
 
--- a lock word: 1 where a seat holds it
+-- a lock word: 1 if a seat holds it
 abbrev pub word_of : Option ℕ → ℕ
 word_of None = 0
 word_of (Some _) = 1
 
--- a part is at home where no seat holds its word
+-- a part is at home if no seat holds its word
 abbrev pub home_of : Option ℕ → Slot → maybe.Option Slot
 home_of None part = some part
 home_of (Some _) part = none
@@ -46,11 +46,11 @@ HoldsBook id holder j (Some out) = (holder ≡ Some id) × (out ≡ j)
 abbrev pub HoldsCells : GeometryFields → ℕ → List (Option ℕ) → List Act → List Cell → Type 0
 HoldsCells g id holders log cells = (i : ℕ) (c : Cell) → get_elem? cells i ≡ some c → (get_elem? holders c.zone ≡ some (Some id)) × (c ≡ zone_at g log c.zone)
 
--- a zone has one cell at most
+-- a zone has at most one cell
 abbrev pub Apart : List Cell → Type 0
 Apart cells = (i j : ℕ) (c d : Cell) → get_elem? cells i ≡ some c → get_elem? cells j ≡ some d → c.zone ≡ d.zone → i ≡ j
 
--- What the journal has of a queue: no act where no pass was made, and where its pass was joined, that pass's own acts.
+-- What the journal has of a queue: no act if no pass was made, and the pass's own acts if it was joined.
 abbrev pub Stands : List Act → ℕ → Standing → Type 0
 Stands log queue Free = acts_of queue log ≡ []
 Stands log queue Live = Unit {0}
@@ -70,7 +70,7 @@ pub record Fits (plan : Plan) (log : List Act) (standings : List Standing) (hold
   pub note : v.kind ≡ Note → v.spare ≡ 0
   pub spent : v.kind ≡ Spent → v.spare ≡ 0
 
--- a queue has one pass at most
+-- a queue has at most one pass
 abbrev pub Alone : List Sight → Type 0
 Alone views = (i j : ℕ) (v w : Sight) → get_elem? views i ≡ some v → get_elem? views j ≡ some w → v.kind ≡ Queue → w.kind ≡ Queue → v.queue ≡ w.queue → i ≡ j
 
@@ -91,8 +91,8 @@ HasCell z v = HasZone z v.cells
 
 -- ---- the rule
 
--- Word 0 counts the journal's acts, word 1 is the book's lock word and word 2 + z zone z's; place 0 is the book's and
--- place 1 + z zone z's.
+-- Word 0 counts the journal's acts, word 1 is the book's lock word, and word 2 + z is zone z's. Place 0 is the book's, and place 1 + z is
+-- zone z's.
 pub record Rule (plan : Plan) (s : State Slot Sight) : Type 0 where
   pub log : List Act
   pub standings : List Standing

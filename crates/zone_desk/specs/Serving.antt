@@ -11,15 +11,15 @@ use Rattle.solo_drive.specs.declared.applied.Applied.TheVariants as applied
 use Rattle.solo_drive.specs.Parts.{zones_in}
 use Rattle.zone_desk.specs.Parts.{zones_at, ledger_at, with_act, wants_room, IsAnswered}
 
--- The parts are those of the acts with this one, and it was answered as the definitions say. The cells are of all zones,
--- or no other has to give way.
+-- The parts are those of the acts with this one, and it was answered as the definitions say. The cells are of all zones, or no other zone
+-- has to give way.
 pub record IsServed (g : GeometryFields) (a : Act) (posted : Posted) (cells cells' : List Cell) (book book' : Book) (out out' : List ℕ) : Type 0 where
   pub cells_are : cells' ≡ zones_at g (book.journal.acts ++ a ∷ []) (zones_in cells)
   pub book_is : book' ≡ ledger_at g (with_act book.journal a)
   pub answer : IsAnswered g book.journal a posted out out'
   pub wide : (zones_in cells ≡ zones g) ⊎ (wants_room g book.journal.acts a ≡ false)
 
--- Another zone has to give way, and the cells aren't of all: nothing changed.
+-- Another zone has to give way, and the cells aren't those of all zones: nothing changed.
 pub record IsUnserved (g : GeometryFields) (a : Act) (payload : List ℕ) (cells cells' : List Cell) (book book' : Book) (out out' : List ℕ) : Type 0 where
   pub bytes : payload ≡ a.payload
   pub same_cells : cells' ≡ cells

@@ -74,12 +74,12 @@ spent_sight = new_sight Spent no_fields 0 [] 0 []
 
 -- ---- the words that a seat holds
 
--- cells of which the last taken comes first, in the order in which they were taken
+-- cells, listed with the last taken first, in the order in which they were taken
 abbrev pub in_order : List Cell → List Cell
 in_order [] = []
 in_order (c ∷ cs) = in_order cs ++ c ∷ []
 
--- the zones whose cells a seat has, in the order taken
+-- the zones whose cells a seat has, in the order in which they were taken
 abbrev pub zones_held : Sight → List ℕ
 zones_held v = zones_in (in_order v.cells)
 
@@ -91,26 +91,26 @@ abbrev pub book_words : Option KeptActs → List ℕ
 book_words None = []
 book_words (Some j) = 1 ∷ []
 
--- those of its zones, and then the book's
+-- the words of its zones, and then the book's
 abbrev pub words_of : Sight → List ℕ
 words_of v = zone_words (zones_held v) ++ book_words v.journal
 
 -- ---- what a call makes of a view
 
--- one word more was found held: this one
+-- one more word was found held: this one
 abbrev pub missed : Sight → ℕ → Sight
 missed v word = record v { found = v.found + 1; found_last = word; held_when_found = words_of v }
 
--- the same after a take that counts it, or doesn't
+-- the same after a take that counts it or doesn't
 abbrev pub missed_if : Bool → Sight → ℕ → Sight
 missed_if true v word = missed v word
 missed_if false v word = v
 
--- these cells are out with the seat
+-- the seat has these cells
 abbrev pub with_cells : Sight → List Cell → Sight
 with_cells v cells = record v { cells = cells }
 
--- the book was taken with this journal, and no commit took place since
+-- the book was taken with this journal, and no commit was made since
 abbrev pub with_journal : Sight → KeptActs → Sight
 with_journal v j = record v { journal = Some j; uncommitted = true }
 
@@ -118,7 +118,7 @@ abbrev pub acts_out : Option KeptActs → List Act
 acts_out None = []
 acts_out (Some j) = j.acts
 
--- the acts in the journal that a seat has out
+-- the acts in the journal that a seat has
 abbrev pub log_of : Sight → List Act
 log_of v = acts_out v.journal
 
@@ -142,7 +142,7 @@ abbrev pub count : Bool → ℕ
 count true = 1
 count false = 0
 
--- The book was given back. Where no commit took place, that is counted, and its journal noted.
+-- The book was given back. If no commit was made, that is counted, and its journal noted.
 abbrev pub gave : Sight → Sight
 gave v = record v {
   journal = None;
@@ -155,7 +155,7 @@ abbrev pub gave_out : Sight → Option KeptActs → Sight
 gave_out v None = v
 gave_out v (Some j) = gave v
 
--- all that was out was given back
+-- everything was given back
 abbrev pub given : Sight → Sight
 given v = with_cells (gave_out v v.journal) []
 
@@ -181,10 +181,10 @@ told v w = record v { seen = longer v.seen w.seen; heard = shorter v.seen w.seen
 
 -- ---- what the main seat knows
 
--- what is left of it when a pass was made
+-- what it knows once a pass was made
 abbrev pub made : Sight → ℕ → ℕ → Sight
 made v queue room = main_sight v.geometry v.seen (v.spare - room) (slice_set v.standings queue Live)
 
--- the same when a pass was joined: its room comes back, and its own acts and what it had seen are kept
+-- the same once a pass was joined: its room comes back, and its own acts and what it had seen are kept
 abbrev pub joined : Sight → Sight → Sight
 joined v w = main_sight v.geometry (longer v.seen w.seen) (v.spare + w.spare) (slice_set v.standings w.queue (Joined w.own w.seen))

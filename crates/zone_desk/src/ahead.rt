@@ -1,5 +1,5 @@
-//! Commands that move their bytes before the book is taken, so that those of different zones do so
-//! side by side.
+//! Commands that move their bytes before the book is taken, so that commands of different zones can
+//! do so in parallel.
 ghost use Rattle.std.specs.Prelude.{◌≡◌, ◌≢◌, ◌<◌, None, Some, length};
 ghost use Rattle.solo_drive.specs.Drives.{HasLengths, act_of};
 ghost use Rattle.solo_drive.specs.Parts.{AreLent};
@@ -18,10 +18,10 @@ use std::snapshot::Snapshot;
 use zns_io::Bytes;
 
 impl Desk {
-    /// Moves the bytes of a command of the pass's queue, for which the pass has the zones: of a
-    /// Read, and of a Write or an Append whose first block is in an opened zone. What it reads
-    /// stands in front of `out`; the rest of `out` stays. The command is then open, until it is
-    /// settled. For every other command nothing changes.
+    /// Moves the bytes of a command of the pass's queue, if it is a Read, or a Write or an Append
+    /// whose first block is in an opened zone. The pass has the command's zones. What it reads is
+    /// at the front of `out`; the rest of `out` is unchanged. The command is then open until it is
+    /// settled. Any other command changes nothing, and returns `None`.
     pub fn ready_act(
         &self,
         pass: &mut QueuePass,
@@ -43,8 +43,8 @@ impl Desk {
         moved
     }
 
-    /// Serves the open command by one commit. The pass has the book, and then has seen the journal
-    /// with this act at its end, where the answer of `ready_act` is the drive's.
+    /// Serves the open command with one commit, on the book that the pass has. The pass has then
+    /// seen the journal with this act at its end, where the answer of `ready_act` is the drive's.
     pub fn settle_act(&self, pass: &mut QueuePass, sqe: Sqe, payload: Bytes, ready: Ready) -> Posted
         requires desk { pass.old.desk ≡ self.now }
         requires opened { pass.old.opened

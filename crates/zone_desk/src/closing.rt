@@ -1,4 +1,4 @@
-//! The end of a desk.
+//! Closing a desk.
 ghost use Rattle.std.specs.Prelude.{◌≡◌, ℕ, suc, ◌+◌, ◌<◌, ◌≤◌, [], true, false, List};
 ghost use Rattle.std.specs.Prelude.{vec_capacity, slice_index_or};
 ghost use Rattle.std.specs.List.{range_with_len};
@@ -23,7 +23,7 @@ use std::alloc::Global;
 use zns_types::Geometry;
 use zone_cell::ZoneCell;
 
-/// Takes all passes in.
+/// Joins all passes to the main seat.
 pub(crate) fn absorb_all(board: &Board, seat: &mut Place, passes: Vec<QueuePass>)
     requires table { seat.old.table_id ≡ board.now.table_id }
     requires words { 0 < board.now.table_id.words }
@@ -78,7 +78,7 @@ fn take_cells(row: &mut Closed<Slot, Global>, zones: u32, shelf: Vec<ZoneCell>) 
     cells
 }
 
-/// What a desk without a pass consists of.
+/// Closes a desk whose passes were all joined, and returns the parts of its drive.
 pub(crate) fn finish(
     table: Table<Slot, Sight, Plan, Law, Global>,
     seat: Place,

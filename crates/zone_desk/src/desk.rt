@@ -34,14 +34,14 @@ use zns_io::{Bytes, NoMemory};
 use zns_types::Geometry;
 use zone_cell::ZoneCell;
 
-/// A drive that several queues share. Word 1 is the book's lock word, and word 2 + z zone z's.
+/// A drive that several queues share. Word 1 is the book's lock word, and word 2 + z is zone z's.
 #[derive(Drop)]
 pub struct Desk {
     pub(crate) geometry: Geometry,
     pub(crate) table: Table<Slot, Sight, Plan, Law, Global>,
-    // Room for the cells at the end.
+    // Room for the cells when the desk is closed.
     shelf: Vec<ZoneCell>,
-    // How many wait, for each word.
+    // The number of waiters for each word.
     waiting: Vec<AtomicU32>,
 }
 
@@ -58,8 +58,8 @@ impl Model for Desk {
 }
 
 impl Desk {
-    /// The desk of a drive to which nothing was done, with room for so many acts, and what makes
-    /// its passes.
+    /// Makes the desk of a new drive with room for `room` acts, and the main pass, which makes its
+    /// queues' passes.
     pub fn new(alloc: Global, g: Geometry, room: u32) -> Result<(Desk, MainPass), NoMemory>
         requires room { room ≤ 262144 }
         ensures desk { IfOk result (λ d. d.0.geometry ≡ g.fields) }
@@ -100,19 +100,19 @@ impl Desk {
         }
     }
 
-    /// The drive's numbers.
+    /// The drive's geometry.
     pub fn geometry(&self) -> &Geometry
         ensures { result.now.fields ≡ self.now.geometry }
     {
         &self.geometry
     }
 
-    /// A pass for a queue, with room for so many acts. It has seen what `main` has seen, and holds
-    /// no word.
+    /// Makes a pass for a queue, with room for `room` acts. It has seen what `main` has seen, and
+    /// holds no word.
     ///
     /// # Errors
-    /// `QueueTaken` where a pass of the queue was made, else `RoomShort` with the room that is left
-    /// where that is less than `room`, else `NoMemory`. Then `main` is as before.
+    /// `QueueTaken` if a pass of the queue was already made, else `RoomShort` with the room that is
+    /// left if that is less than `room`, else `NoMemory`. `main` is then unchanged.
     pub fn pass(
         &self,
         alloc: Global,
@@ -156,8 +156,9 @@ impl Desk {
         })
     }
 
-    /// Waits until the lock word is free. If the call returns, the pass holds it, and has its part:
-    /// the book, or the zone's cell. The words of zones are taken rising, and then the book's.
+    /// Waits until the lock word is free, and takes it. If the call returns, the pass holds the
+    /// word and has its part: the book, or the zone's cell. The words of zones are taken in rising
+    /// order, and the book's word after them.
     pub fn take_word<R: Wait>(&self, rt: &R, pass: &mut QueuePass, word: u32)
         requires desk { pass.old.desk ≡ self.now }
         requires next { MayTake self.now.geometry pass.old word }
@@ -172,8 +173,8 @@ impl Desk {
         unreachable!()
     }
 
-    /// Takes the lock word as `take_word` does, and waits for nobody. It answers false where its
-    /// one step finds the word held, which is counted.
+    /// Takes the lock word as `take_word` does, but never waits. Returns false if its one step
+    /// finds the word held, which is counted.
     pub fn try_word(&self, pass: &mut QueuePass, word: u32) -> bool
         requires desk { pass.old.desk ≡ self.now }
         requires next { MayTake self.now.geometry pass.old word }
@@ -184,7 +185,7 @@ impl Desk {
         self.step_word::<Trying>(pass, word)
     }
 
-    // One step: where the word is free, the pass has it, and its part.
+    // One step: takes the word and its part if the word is free.
     fn step_word<C: Counting>(&self, pass: &mut QueuePass, word: u32) -> bool
         requires desk { pass.old.desk ≡ self.now }
         requires next { MayTake self.now.geometry pass.old word }
@@ -238,9 +239,9 @@ impl Desk {
         true
     }
 
-    /// Serves an act of the pass's queue on the parts that the pass has, by one commit. The pass
-    /// then has seen the journal with this act at its end. What the act reads stands in front of
-    /// `out`; the rest of `out` stays. Where another zone has to give way, and the pass doesn't
+    /// Serves an act of the pass's queue on the parts that the pass has, with one commit. The pass
+    /// has then seen the journal with this act at its end. What the act reads is at the front of
+    /// `out`; the rest of `out` is unchanged. If another zone has to give way and the pass doesn't
     /// have all zones, nothing changes.
     pub fn apply_act(
         &self,
@@ -295,8 +296,8 @@ impl Desk {
         free_zones(board, &self.waiting, &mut pass.seat, &mut pass.cells);
     }
 
-    /// Gives the book back where the pass has it, and frees its word. The pass keeps the words of
-    /// its zones, and their cells.
+    /// Gives the book back if the pass has it, and frees its word. The pass keeps the words and the
+    /// cells of its zones.
     pub fn give_book(&self, pass: &mut QueuePass)
         requires desk { pass.old.desk ≡ self.now }
         ensures { pass.new ≡ knowing pass.old (gave_out pass.old.sight pass.old.sight.journal) }
@@ -323,8 +324,8 @@ impl Desk {
         }
     }
 
-    /// Tells a pass what a note has seen. The pass then has seen the longer of the two lists, of
-    /// which the other is a beginning.
+    /// Tells a pass what a note has seen. The pass has then seen the longer of the two lists of
+    /// acts, of which the other is a prefix.
     pub fn learn(&self, pass: &mut QueuePass, note: Note)
         requires desk { pass.old.desk ≡ self.now }
         requires note { note.desk ≡ self.now }
@@ -338,7 +339,7 @@ impl Desk {
         board.load::<Compare>(&mut pass.seat, HISTORY);
     }
 
-    /// The drive that the passes leave. They are all that were made.
+    /// Closes the desk, and returns its drive. `passes` are all the passes that were made.
     pub fn close(self, main: MainPass, passes: Vec<QueuePass>) -> Solo
         requires desk { main.desk ≡ self }
         requires idle { AllIdle self passes.items }

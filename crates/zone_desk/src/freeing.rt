@@ -13,7 +13,7 @@ use crate::waking::wake;
 use std::sync::atomic::AtomicU32;
 use zone_cell::ZoneCell;
 
-// Gives the cell back that was taken last, and frees its zone's word.
+// Gives back the cell that was taken last, and frees its zone's word.
 fn free_zone(board: &Board, waiting: &[AtomicU32], seat: &mut Place, cell: ZoneCell)
     requires table { seat.old.table_id ≡ board.now.table_id }
     requires counts { length waiting.now ≡ board.now.table_id.words }

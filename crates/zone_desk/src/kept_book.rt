@@ -1,4 +1,4 @@
-//! The book behind a box, so that it moves in and out of its place as one pointer.
+//! The book in a box, so that it moves in and out of its place as one pointer.
 ghost use Rattle.std.specs.Prelude.{◌≡◌, IfOk};
 
 use solo_drive::Book;
@@ -6,7 +6,7 @@ use std::alloc::Global;
 use std::marker::Model;
 use zns_io::NoMemory;
 
-/// A book on the heap, seen as the book.
+/// A book on the heap, which contracts see as the book.
 #[derive(Drop)]
 pub struct KeptBook {
     pub(crate) book: Box<Book>,
@@ -31,7 +31,7 @@ impl KeptBook {
         Ok(KeptBook { book })
     }
 
-    /// The book itself.
+    /// Takes the book off the heap.
     pub fn into_book(self) -> Book
         ensures { result ≡ self }
     {

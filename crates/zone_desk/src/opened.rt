@@ -1,4 +1,4 @@
-//! An open command: its bytes have moved, and it is not in the history yet.
+//! An open command: its bytes have moved, but it isn't in the history yet.
 ghost use Rattle.std.specs.Prelude.{◌≡◌};
 ghost use Rattle.zone_desk.specs.Ahead.{opened_by};
 
@@ -12,7 +12,7 @@ use zns_io::Bytes;
 #[derive(Drop)]
 pub struct Opened {
     pub(crate) sqe: Sqe,
-    // The host data, for contracts alone.
+    // The host data, used only in contracts.
     pub(crate) payload: Snapshot<Bytes>,
     pub(crate) ready: Ready,
 }
@@ -26,7 +26,7 @@ impl Model for Opened {
 }
 
 impl Opened {
-    /// This command, where its bytes have moved.
+    /// The open command, or `None` if its bytes haven't moved.
     pub fn of(sqe: Sqe, payload: &Bytes, ready: &Option<Ready>) -> Option<Opened>
         ensures { result ≡ opened_by sqe payload.now ready.now }
     {

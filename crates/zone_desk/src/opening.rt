@@ -9,7 +9,7 @@ use std::alloc::Global;
 use zns_io::NoMemory;
 use zone_cell::ZoneCell;
 
-/// The book's place, and one for each cell.
+/// The book's place, and then one for each cell.
 pub(crate) fn places(alloc: Global, book: Book, cells: Vec<ZoneCell>) -> Result<Vec<Slot>, NoMemory>
     ensures { IfOk result (λ v. v.items ≡ Ledger book ∷ map (λ c. Zone c) cells.items) }
 {

@@ -11,21 +11,21 @@ use zone_cell::ZoneCell;
 /// Why no pass was made.
 #[derive(Clone, Copy, Debug, PartialEq, Eq)]
 pub enum PassErr {
-    /// A pass of this queue was made before.
+    /// A pass of this queue was already made.
     QueueTaken(u16),
 
-    /// No more room than this is left.
+    /// Only this much room is left.
     RoomShort(u32),
 
     /// Out of memory.
     NoMemory,
 }
 
-/// What passes are made with, and what closes the desk.
+/// Makes the passes, and closes the desk.
 #[derive(Drop)]
 pub struct MainPass {
     pub(crate) left: u32,
-    // Whether a pass was made, for each queue.
+    // For each queue, whether a pass was made.
     pub(crate) given: Vec<bool>,
     pub(crate) seat: Seat<Slot, Sight>,
 }
@@ -41,7 +41,7 @@ impl Model for MainPass {
     ghost invariant = { λ p. MainStands p.left p.given.items p.seat.me };
 }
 
-/// What the acts of one queue are served with.
+/// A pass, which serves the acts of one queue.
 #[derive(Drop)]
 pub struct QueuePass {
     pub(crate) queue: u16,
@@ -50,7 +50,7 @@ pub struct QueuePass {
     pub(crate) book: Option<KeptBook>,
     // In the order taken, with room for all zones.
     pub(crate) cells: Vec<ZoneCell>,
-    // The command whose bytes have moved in the cells.
+    // The open command, whose bytes have moved in the cells.
     pub(crate) open: Option<Opened>,
     pub(crate) seat: Seat<Slot, Sight>,
 }
@@ -66,7 +66,7 @@ impl Model for QueuePass {
         p.seat.table_id p.seat.me };
 }
 
-/// What a pass had seen.
+/// What a pass had seen when the note was made.
 #[derive(Drop)]
 pub struct Note {
     pub(crate) seat: Seat<Slot, Sight>,
@@ -84,21 +84,21 @@ impl Model for Note {
 }
 
 impl QueuePass {
-    /// Its queue.
+    /// The pass's queue.
     pub fn queue(&self) -> u16
         ensures { result ≡ self.now.sight.queue }
     {
         self.queue
     }
 
-    /// For how many more acts it has room.
+    /// The number of acts that it still has room for.
     pub fn spare(&self) -> u32
         ensures { result ≡ self.now.sight.spare }
     {
         self.spare
     }
 
-    /// How many acts it has served.
+    /// The number of acts that it has served.
     pub fn served(&self) -> u32
         ensures { result ≡ length self.now.sight.own }
     {

@@ -1,11 +1,12 @@
-//! The rule of a desk, and what each of its steps tells. These types are for contracts alone.
+//! The rule of a desk, and what each step tells the seat that makes it. Only contracts use these
+//! types.
 use crate::plan::Plan;
 use crate::sight::Sight;
 use crate::slot::Slot;
 use atomic_table::{Join, Play, Split, TableRule};
 use std::marker::{Brand, PhantomData};
 
-/// The rule.
+/// The rule of a desk.
 pub struct Law;
 
 impl TableRule<Slot, Sight, Plan> for Law {
@@ -17,7 +18,7 @@ impl TableRule<Slot, Sight, Plan> for Law {
     ghost first = { first_sight };
 }
 
-/// Whether a take that finds its word held counts that.
+/// Whether a take counts a word that it finds held.
 pub trait Counting {
     ghost use Rattle.std.specs.Prelude.{Bool};
 
@@ -33,7 +34,7 @@ impl Counting for Waiting {
     ghost counts = { false };
 }
 
-/// Waits for nobody, and counts.
+/// Never waits, and counts.
 pub struct Trying;
 
 impl Counting for Trying {
@@ -42,7 +43,7 @@ impl Counting for Trying {
     ghost counts = { true };
 }
 
-/// Takes the book's word with the book, or finds it held.
+/// Takes the book's word and the book, or finds the word held.
 pub struct TakeBook<C> {
     of: PhantomData<C>,
 }
@@ -53,7 +54,7 @@ impl<C: Counting> Play<Slot, Sight> for TakeBook<C> {
     ghost then = { TakesBook C.counts };
 }
 
-/// Takes a zone's word with its cell, or finds it held.
+/// Takes a zone's word and its cell, or finds the word held.
 pub struct TakeZone<C> {
     of: PhantomData<C>,
 }
@@ -64,7 +65,7 @@ impl<C: Counting> Play<Slot, Sight> for TakeZone<C> {
     ghost then = { TakesZone C.counts };
 }
 
-/// Which act a commit adds. Each commit picks it.
+/// The act that a commit adds. Each commit picks it.
 pub trait Adding {
     ghost use Rattle.zone_model.specs.declared.act.Act.{Act};
 
@@ -97,7 +98,7 @@ impl Play<Slot, Sight> for FreeBook {
     ghost then = { FreesBook };
 }
 
-/// Gives the cell back that was taken last, and frees its word.
+/// Gives back the cell that was taken last, and frees its word.
 pub struct FreeZone;
 
 impl Play<Slot, Sight> for FreeZone {
@@ -106,7 +107,7 @@ impl Play<Slot, Sight> for FreeZone {
     ghost then = { FreesZone };
 }
 
-/// Which pass is made: its queue, and its room. Each call picks them.
+/// The queue and the room of a pass that is made. Each call picks them.
 pub trait Seating {
     ghost use Rattle.std.specs.Prelude.{ℕ};
 
@@ -134,7 +135,7 @@ impl<D: Seating> Split<Sight> for Make<D> {
     ghost right = { λ v. queue_sight v.geometry D.queue v.seen D.room };
 }
 
-/// Takes a pass in.
+/// Joins a pass to the main seat.
 pub struct Absorb;
 
 impl Join<Sight> for Absorb {
@@ -167,7 +168,7 @@ impl Join<Sight> for Tell {
     ghost spent = { spent_sight };
 }
 
-/// Compares what was seen with what was told.
+/// Compares what a seat has seen with what it was told.
 pub struct Compare;
 
 impl Play<Slot, Sight> for Compare {

@@ -1,4 +1,4 @@
-//! One act on the parts that a pass has.
+//! Serving one act on the parts that a pass has.
 ghost use Rattle.std.specs.Prelude.{◌≡◌, ◌+◌, ◌<◌, ◌^◌, length, vec_capacity};
 ghost use Rattle.solo_drive.specs.Drives.{HasLengths, act_of};
 ghost use Rattle.sqe_codec.specs.Commands.{transfer_len};
@@ -17,8 +17,8 @@ use zns_io::Bytes;
 use zns_types::Geometry;
 use zone_cell::ZoneCell;
 
-/// Serves one act on cells in their order, and the book. What it reads stands in front of `out`;
-/// the rest of `out` stays.
+/// Serves one act on the book and on cells in their order. What it reads is at the front of `out`;
+/// the rest of `out` is unchanged.
 pub(crate) fn serve_on(
     cells: &mut Vec<ZoneCell>,
     book: &mut KeptBook,
@@ -43,7 +43,8 @@ pub(crate) fn serve_on(
     apply(cells, ledger, g, queue, sqe, payload, out)
 }
 
-/// Moves the bytes of a command in cells in their order, if it goes ahead of the book.
+/// Moves the bytes of a command in cells in their order, if that may happen before the book is
+/// taken.
 pub(crate) fn move_on(
     cells: &mut Vec<ZoneCell>,
     g: &Geometry,
@@ -63,7 +64,7 @@ pub(crate) fn move_on(
     ready(cells, g, queue, &sqe, payload, out)
 }
 
-/// Does what is left of a command whose bytes have moved, on a book behind its box.
+/// Does the rest of a command whose bytes have moved, on a boxed book.
 pub(crate) fn settle_on(
     kept: &mut KeptBook,
     g: &Geometry,

@@ -1,21 +1,21 @@
-//! What a seat of the desk knows, which contracts alone read.
+//! What a seat of the desk knows. Only contracts read it.
 use std::collections::LinkedList;
 use zns_types::GeometryFields;
 use zone_cell::ZoneCell;
 use zone_model::{Act, Journal};
 
-/// Which kind of seat it is.
+/// The kind of a seat.
 pub enum Kind {
-    /// The one that makes passes.
+    /// The seat that makes passes.
     Main,
 
     /// A queue's pass.
     Queue,
 
-    /// What a pass had seen.
+    /// What a pass had seen when the note was made.
     Note,
 
-    /// One that was joined.
+    /// A seat that was joined to another.
     Spent,
 }
 
@@ -27,15 +27,15 @@ pub enum Standing {
     /// Its pass is out.
     Live,
 
-    /// Its pass was joined, with these acts of its own, after it had seen those.
+    /// Its pass was joined. The first list is the pass's own acts, the second all that it had seen.
     Joined(LinkedList<Act>, LinkedList<Act>),
 }
 
-/// What a seat knows. No value of it is made, and so its numbers have no last value.
+/// What a seat knows. No value of it is ever made, so its counts can't overflow.
 pub struct Sight {
     pub kind: Kind,
 
-    /// That of its desk.
+    /// The geometry of its desk.
     pub geometry: GeometryFields,
 
     pub queue: u16,
@@ -43,27 +43,28 @@ pub struct Sight {
     /// The acts that it has seen.
     pub seen: LinkedList<Act>,
 
-    /// A beginning of them, which it was told of last.
+    /// A prefix of them, which it was told of last.
     pub heard: LinkedList<Act>,
 
     /// The acts of its queue.
     pub own: LinkedList<Act>,
 
-    /// For how many more acts it has room.
+    /// The number of acts that it still has room for.
     pub spare: u32,
 
-    /// The journal, while the book is out with this seat.
+    /// The journal, while this seat has the book.
     pub journal: Option<Journal>,
 
-    /// The cells that are out with it, the last taken first.
+    /// The cells that it has, the last taken first.
     pub cells: LinkedList<ZoneCell>,
 
-    /// How many lock words it found held, the last of them, and the words that it held then.
+    /// The number of lock words that it found held, the last of them, and the words that it held at
+    /// that time.
     pub found: u64,
     pub found_last: u64,
     pub held_when_found: LinkedList<u64>,
 
-    /// Whether no commit took place since it took the book.
+    /// Whether it has the book and has made no commit since it took it.
     pub uncommitted: bool,
 
     /// How often it gave the book back without a commit, and the acts in its journal the last such
@@ -74,6 +75,6 @@ pub struct Sight {
     /// The words that it held at its last commit.
     pub held_at_commit: LinkedList<u64>,
 
-    /// What the main seat knows of the queues, by their numbers. Other seats have none.
+    /// What the main seat knows of each queue, by the queue's number. Other seats have none.
     pub standings: LinkedList<Standing>,
 }

@@ -1,8 +1,7 @@
 use crate::kept_book::KeptBook;
 use zone_cell::ZoneCell;
 
-/// What lies in a place of the table: the book, or the cell of a zone, and nothing while a pass has
-/// it.
+/// What is in a place of the table: the book or a zone's cell, or `Away` while a pass has it.
 #[derive(Drop)]
 pub enum Slot {
     Away,

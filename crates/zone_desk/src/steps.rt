@@ -1,4 +1,4 @@
-//! The steps that are told what they add.
+//! The steps whose caller picks what they add.
 ghost use Rattle.std.specs.Prelude.{◌≡◌, ◌≢◌, ◌+◌, ◌<◌, ◌≤◌, [], None};
 ghost use Rattle.solo_drive.specs.Drives.{act_of};
 ghost use Rattle.zone_desk.specs.Parts.{Covers};
@@ -17,20 +17,20 @@ use sqe_codec::Sqe;
 use std::snapshot::Snapshot;
 use zns_io::Bytes;
 
-/// Counts the acts in the journal.
+/// The word that counts the acts in the journal.
 pub(crate) const HISTORY: usize = 0;
 
-/// Is 1 while a seat has the book. The words of the zones come after it.
+/// The book's word, which is 1 while a seat has the book. The zones' words follow it.
 pub(crate) const BOOK: usize = 1;
 
-/// Where the book lies. The places of the zones come after it.
+/// The book's place. The zones' places follow it.
 pub(crate) const LEDGER: usize = 0;
 
 pub(crate) type Board = Shared<Slot, Sight, Plan, Law>;
 
 pub(crate) type Place = Seat<Slot, Sight>;
 
-/// The seat of a new pass.
+/// Makes the seat of a new pass.
 pub(crate) fn seat_for<D: Seating>(board: &Board, seat: &mut Place, queue: u16, room: u32) -> Place
     requires table { seat.old.table_id ≡ board.now.table_id }
     requires words { 0 < board.now.table_id.words }

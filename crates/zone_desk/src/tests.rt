@@ -15,7 +15,7 @@ use std::test::Fail;
 use zns_io::Bytes;
 use zns_types::{Code, Geometry, GeometryFields};
 
-// Four zones of 48 blocks of 512 bytes, of which three may be active and two opened.
+// Four zones of 48 blocks of 512 bytes, of which at most three may be active and two opened.
 const SMALL: GeometryFields = GeometryFields {
     block_exp: 9,
     mdts: 0,
@@ -94,7 +94,7 @@ fn book_goes_back_before_the_zones(rt: HostRuntime) -> Result<(), Fail> {
     Ok(())
 }
 
-// A drive of one such zone.
+// A drive with one such zone.
 const ONE: GeometryFields = GeometryFields {
     zones: 1,
     active_limit: 1,
@@ -104,7 +104,7 @@ const ONE: GeometryFields = GeometryFields {
 
 // A command by its opcode, its first block and its dwords 12 and 13, and the byte that fills its
 // host data. Expected are: whether its bytes move before the book is taken, its status, and some
-// bytes of what it reads, by their places.
+// bytes of what it reads, with their places.
 #[derive(Clone, Copy)]
 struct Case {
     entry: [u8; 4],
@@ -114,14 +114,14 @@ struct Case {
     read: &'static [(usize, u8)],
 }
 
-// Bytes of three blocks that were written one by one.
+// Bytes of three blocks that were written one at a time.
 const BLOCKS: &[(usize, u8)] = &[(0, 0x11), (511, 0x11), (512, 0x22), (1535, 0x33)];
 
 // A report of one zone, Implicitly Opened, with the write pointer at block 4.
 const REPORT: &[(usize, u8)] = &[(0, 1), (64, 2), (65, 0x20), (88, 4)];
 
-// Where the zone is Empty or Closed a Write waits for the book, as all other commands do but a Read
-// and what writes to an opened zone.
+// While the zone is Empty or Closed, a Write waits for the book. Only a Read, and a command that
+// writes to an opened zone, go ahead of it.
 fn rows() -> [Case; 8] {
     [
         row([0x01, 0, 0, 0], 0x11, false, Code::SUCCESS, &[]),
@@ -156,8 +156,8 @@ fn entry_of(row: &Case) -> Sqe {
     Sqe { bytes }
 }
 
-// What was answered: whether bytes moved before the book was taken, what was posted, and the room
-// for what is read.
+// The answer to a command: whether bytes moved before the book was taken, what was posted, and the
+// room for what is read.
 #[derive(Drop)]
 struct Told {
     ahead: bool,
@@ -192,7 +192,7 @@ fn take_only<R: Wait>(rt: &R, desk: &Desk, pass: &mut QueuePass)
     desk.take_word(rt, pass, 2);
 }
 
-// Serves a command by one call on the zone that the pass has, and gives all back.
+// Serves a command with one call on the zone that the pass has, and gives everything back.
 fn apply_taken<R: Wait>(
     rt: &R,
     desk: &Desk,
@@ -219,8 +219,8 @@ fn apply_taken<R: Wait>(
     applied
 }
 
-// Serves a command on the drive's only zone: by both calls where `ahead` asks for it and its bytes
-// move before the book is taken, and else by one. Whether they did comes first.
+// Serves a command on the drive's only zone: with two calls if `ahead` is set and its bytes move
+// before the book is taken, and else with one. Returns whether they moved, and the answer.
 fn serve<R: Wait>(
     rt: &R,
     desk: &Desk,
@@ -289,7 +289,7 @@ fn serve_row<R: Wait>(
     }))
 }
 
-// What one pass is told of the rows, one after the other.
+// The answers to the rows, which one pass serves one after another.
 fn told_of_rows<R: Wait>(rt: &R, alloc: Global, ahead: bool) -> Result<Vec<Told>, Fail> {
     let (desk, mut main) = Desk::new(alloc, Geometry::new(ONE)?, 8)?;
     let mut pass = desk.pass(alloc, &mut main, 1, 8)?;
@@ -302,7 +302,7 @@ fn told_of_rows<R: Wait>(rt: &R, alloc: Global, ahead: bool) -> Result<Vec<Told>
     Ok(told)
 }
 
-// Both calls answer what the one does, where bytes move before the book is taken.
+// Where bytes move before the book is taken, the two calls answer what the one call answers.
 #[test]
 fn both_calls_are_one(rt: HostRuntime) -> Result<(), Fail> {
     let alloc = rt.alloc();

@@ -1,4 +1,4 @@
-//! What threads may share, and what may go from one to another.
+//! What threads may share, and what may move between them.
 use crate::desk::Desk;
 use crate::passes::{MainPass, Note, QueuePass};
 use solo_drive::{Book, Parts, Solo};
@@ -9,8 +9,8 @@ fn may_move<T: Send>() {}
 
 fn may_be_shared<T: Sync>() {}
 
-/// A desk may be shared by threads. Its passes and notes, and what a drive consists of, may go from
-/// one thread to another. The call does nothing: it says so by the bounds of what it calls.
+/// A desk may be shared by threads. Its passes and notes, and the parts of a drive, may move from
+/// one thread to another. The call does nothing: the bounds of the functions that it calls say so.
 pub fn threads_may_share() {
     may_be_shared::<Desk>();
     may_move::<Desk>();

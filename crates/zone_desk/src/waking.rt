@@ -1,13 +1,14 @@
-//! Waiting for a lock word, and waking who waits. A wake is a system call, so it is made only where
-//! somebody waits: each word has a count of those who do.
+//! Waiting for a lock word, and waking those who wait. A wake is a system call, so it is made only
+//! if somebody waits: each word has a count of its waiters.
 //!
-//! No wake is missed, which no clause says. Every step named here is one atomic step, in one order
-//! for all threads. Who waits raises the count (1), and then sleeps only if the word is still 1
-//! (2), which the system compares in one step with going to sleep. Who releases stores 0 (3), and
-//! then reads the count (4). If 4 comes before 1, then 3 comes before 2, which sees the 0, or a
-//! later taker's 1, and that taker's own release reads the count after 1. If 4 comes after 1, it
-//! finds the count raised, for it is lowered only once its owner is awake, and wakes one sleeper.
-//! Who wakes tries to take the word; if another was faster, that one's release wakes again.
+//! No wake is missed, though no clause says so. Every step below is atomic, and all threads agree
+//! on one order of them. A waiter raises the count (1), and then sleeps only if the word is still 1
+//! (2); the system compares the word and puts the thread to sleep in one step. A thread that frees
+//! the word stores 0 (3), and then reads the count (4). If 4 comes before 1, then 3 comes before 2,
+//! which sees the 0, or the 1 of a later taker, which reads the count after 1 when it frees the
+//! word. If 4 comes after 1, it finds the count raised, because a waiter lowers it only once it is
+//! awake, and wakes one sleeper. A woken thread tries to take the word; if another was faster, that
+//! one wakes a sleeper again when it frees the word.
 ghost use Rattle.std.specs.Prelude.{◌≡◌, ◌<◌, length, vec_len, IfOk};
 
 use crate::steps::Board;
@@ -17,10 +18,10 @@ use std::sync::Wait;
 use std::sync::atomic::{AtomicU32, Ordering};
 use zns_io::NoMemory;
 
-// How often the word is looked at before the thread sleeps. Most parts are out for a short time.
+// The number of looks at the word before the thread sleeps. Most words are held for a short time.
 const LOOKS: u32 = 64;
 
-/// So many counts of those who wait, each 0.
+/// The waiters' counts of `words` words, each 0.
 pub(crate) fn no_one_waits(alloc: Global, words: usize) -> Result<Vec<AtomicU32>, NoMemory>
     ensures { IfOk result (λ v. vec_len v ≡ words) }
 {
@@ -31,7 +32,7 @@ pub(crate) fn no_one_waits(alloc: Global, words: usize) -> Result<Vec<AtomicU32>
     Ok(waiting)
 }
 
-// Whether one of a few looks sees the word free.
+// Whether the word is seen free within a few looks.
 fn is_seen_free(board: &Board, word: usize) -> bool
     requires word { word < board.now.table_id.words }
 {
@@ -59,7 +60,7 @@ pub(crate) fn wait_for<R: Wait>(rt: &R, board: &Board, waiting: &[AtomicU32], wo
     count.fetch_sub(1, Ordering::SeqCst);
 }
 
-/// Wakes one of those who wait for the word, which was released before.
+/// Wakes one waiter of a word that was just freed.
 pub(crate) fn wake(board: &Board, waiting: &[AtomicU32], word: usize)
     requires word { word < board.now.table_id.words }
     requires count { word < length waiting.now }

@@ -46,7 +46,7 @@ excursion_offline : (kind : ℕ) → (kind == 1) ≡ false → is_ok (excursion 
 excursion_offline kind other =
     by_kind (λ r. is_ok r ≡ true → is_offline (led_to r ReadOnly) ≡ true) kind ReadOnly (λ one ok. absurd (cc (one, other))) (λ ok. absurd (cc ok)) (λ ok. absurd (cc ok)) (λ ok. absurd (cc ok)) (λ ok. refl) (λ ok. absurd (cc ok))
 
--- from Read Only a zone goes Offline only
+-- a Read Only zone can only go Offline
 read_only_offline : (e : Deed) (s : State) → is_still e ≡ true → is_ok (go (action_of e) s) ≡ true → is_read_only s ≡ true → is_offline (after (action_of e) s) ≡ true
 read_only_offline deed.Offline ReadOnly still ok is = refl
 read_only_offline (deed.Excursion kind) ReadOnly still ok is = excursion_offline kind (not-true _ still) ok
@@ -70,7 +70,7 @@ committed_below g ds b other e = below (or_cases (nat_lt b (pointer_of g ds)) (n
     below (inl lt) = ltb-true b (pointer_of g ds) lt
     below (inr is) = let both = and_parts (nat_lt b g.capacity) (is_read_only (state_of g ds)) is in absurd (cc (both.1, other))
 
--- where the pointer has not fallen and the block is what it was
+-- if the pointer has not moved back and the block is unchanged, the block is still committed
 still_committed : (g : GeometryFields) (old new : List Done) (b : ℕ) → b < pointer_of g new → block_of g new b ≡ block_of g old b → IsKeptBlock g old new b
 still_committed g old new b below same = record { committed = or_left _ _ (lt-ltb b (pointer_of g new) below); seen = ap (seen_block (block_len g)) same }
 
@@ -100,7 +100,7 @@ kept-fills g ds d b finish leads s was =
     let within = s.within in
     still_committed g ds (d ∷ ds) b (omega (arith, there)) (block-kept g d ds b end.no_reset end.no_write)
 
--- a write begins at the pointer or after it, and doesn't move it back
+-- a write begins at or after the pointer, and doesn't move it back
 record IsForward (g : GeometryFields) (ds : List Done) (d : Done) (from : ℕ) : Type 0 where
   begins : pointer_of g ds ≤ from
   grows : pointer_of g ds ≤ pointer_of g (d ∷ ds)

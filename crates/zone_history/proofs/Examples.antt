@@ -25,7 +25,7 @@ write_byte from byte = record { deed = deed.Write from 1; payload = replicate 51
 abbrev with_window : List Done
 with_window = plain (deed.Open true) ∷ []
 
--- 40 blocks were written before
+-- such a zone, of which 40 blocks were written before
 abbrev near_end : List Done
 near_end = plain (deed.Open true) ∷ plain (deed.Write 0 40) ∷ []
 
@@ -38,7 +38,7 @@ overrun : pointer_of drive (plain (deed.Write 6 3) ∷ with_window) ≡ 4
 unfolding pointer_since
 overrun = refl
 
--- after that a Write before the pointer is refused
+-- after that, a Write before the pointer is refused
 before_pointer : first_holding (rows_for drive (deed.Write 3 1) (sight_of drive (plain (deed.Write 6 3) ∷ with_window))) ≡ Some zone_invalid_write
 unfolding pointer_since state_of window_of
 before_pointer = refl
@@ -62,12 +62,12 @@ close_window : window_of drive (plain deed.Close ∷ near_end) ≡ true
 unfolding pointer_since state_of window_of
 close_window = refl
 
--- a finish leads to the capacity
+-- a finish moves the pointer to the capacity
 finish_pointer : pointer_of drive (plain deed.Finish ∷ write_byte 0 7 ∷ []) ≡ 48
 unfolding pointer_since
 finish_pointer = refl
 
--- the block that was written last is read, and a reset forgets it
+-- a Read returns what was written to a block last, and a reset forgets it
 written_twice : block_of drive (write_byte 5 2 ∷ write_byte 5 1 ∷ with_window) 5 ≡ Some (replicate 512 2)
 unfolding pointer_since block_of
 written_twice = refl
@@ -81,7 +81,7 @@ read_only : is_committed drive (plain (deed.Excursion 4) ∷ write_byte 0 7 ∷ 
 unfolding pointer_since state_of
 read_only = refl
 
--- a reset is recommended, of a zone with a random write area
+-- a reset is recommended for a zone with a random write area
 recommended : attributes_of drive (plain (deed.Excursion 3) ∷ with_window) ≡ 12
 unfolding pointer_since state_of window_of attributes_of
 recommended = refl

@@ -1,4 +1,4 @@
--- What holds of every deed that was admitted after others that were.
+-- The laws of every deed that was admitted after other admitted deeds.
 use Rattle.zone_history.specs.Moves.{DeedMovesPointer, PointerIsLeast, DeedKeepsCommitted, DeedIsAllowed}
 use Rattle.zone_history.proofs.Ways.{way_of, deed_leads}
 use Rattle.zone_history.proofs.Standing.{stands}

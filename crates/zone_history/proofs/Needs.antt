@@ -1,4 +1,4 @@
--- What a deed does to what its zone uses: active and open resources, and random write areas.
+-- How a deed changes what its zone uses: active and open resources, and random write areas.
 use Rattle.std.proofs.Common.{◌≡◌, ℕ, Bool, true, false, cond, List, ◌∷◌, refl, sym, ap, ◌∙◌, inl, inr}
 use Rattle.std.specs.Prelude.{◌==◌, ◌&&◌, ◌⊎◌}
 use Rattle.std.proofs.lemmas.Bool.{and_from}
@@ -35,7 +35,7 @@ pub record IsCovered (used was need : Need) : Type 0 where
 
 -- ---- states
 
--- a state that isn't Full is where the action leads
+-- a zone that doesn't become Full is in the state where the action leads
 not_filled : (capacity : ℕ) (a : Action) (pointer : ℕ) (s : State) (test : State → Bool) → test Full ≡ false → test (state_after capacity a pointer s) ≡ true → test (after a s) ≡ true
 not_filled capacity a pointer s test full on = by_case (adds_blocks a && (pointer == capacity)) on
   where
@@ -74,7 +74,7 @@ window-covered g ds d s within there =
 
 -- ---- the deed
 
--- After a deed the zone uses only what it used before or the deed needs, and the need asks only for what isn't used.
+-- After a deed the zone uses only what it used before or the deed needs, and the deed needs only what wasn't used.
 pub covered : (g : GeometryFields) (ds : List Done) (d : Done) → IsGeometry g → AreAdmitted g (d ∷ ds) → IsCovered (use_of (sight_of g (d ∷ ds))) (use_of (sight_of g ds)) (need_for d.deed (sight_of g ds))
 covered g ds d is a =
     let within = leads_within d.deed (sight_of g ds) in

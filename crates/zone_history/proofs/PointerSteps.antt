@@ -1,4 +1,4 @@
--- Where a deed leaves the pointer of a zone, of which the deeds stand to its state.
+-- Where a deed leaves the pointer of a zone whose deeds fit its state.
 use Rattle.std.proofs.Common.{◌≡◌, ℕ, ◌+◌, ◌-◌, ◌%◌, ◌<◌, ◌≤◌, max, true, false, List, ◌∷◌, refl, sym, ap, ◌∙◌, arith, inl, inr}
 use Rattle.std.proofs.lemmas.Bool.{cases_Bool}
 use Rattle.zns_types.specs.declared.fields.GeometryFields.{GeometryFields}
@@ -16,7 +16,7 @@ use Rattle.zone_history.proofs.Ways.{IsWrite, finish_end}
 use Rattle.zone_history.proofs.Multiples.{sum_mod, reach_of, reach_below}
 use Rattle.zone_history.proofs.Stands.{Stands, unopened, window-facts}
 
--- also where the controller finishes the zone
+-- a finish leaves it at the capacity, also when the controller does it
 pub finish-pointer : (g : GeometryFields) (ds : List Done) (d : Done) → is_finish d.deed ≡ true → pointer_of g (d ∷ ds) ≡ g.capacity
 finish-pointer g ds d finish = pointer-finish g d ds (finish_end d.deed finish).no_reset finish
 
@@ -34,7 +34,7 @@ write-moves g ds d from blocks is s w there =
     let has = window-facts g ds is s there in
     pointer-windowed g d ds has.granules.granule w.no_reset w.no_finish has.unfinished has.opened ∙ ap (λ (n : ℕ). least_multiple g.granule (max (pointer_of g ds) n)) (w.bound there)
 
--- an implicit commit stays before the capacity
+-- an implicit commit leaves it below the capacity
 pub write-below : (g : GeometryFields) (ds : List Done) (d : Done) (from blocks : ℕ) → IsGeometry g → Stands g ds → IsWrite g ds d.deed from blocks → window_of g ds ≡ true → pointer_of g (d ∷ ds) < g.capacity
 write-below g ds d from blocks is s w there =
     let has = window-facts g ds is s there in

@@ -1,4 +1,4 @@
--- What one more deed makes of the write pointer, if each deed was admitted.
+-- The effect of one more deed on the write pointer, if each deed was admitted.
 use Rattle.std.proofs.Common.{◌≡◌, ℕ, ◌+◌, ◌-◌, max, Bool, true, false, List, ◌∷◌, sym, ap, subst}
 use Rattle.zns_types.specs.declared.fields.GeometryFields.{GeometryFields}
 use Rattle.zns_types.specs.Geometry.{IsGeometry}
@@ -16,7 +16,7 @@ use Rattle.zone_history.proofs.PointerSteps.{write-adds, write-moves, commit-mov
 use Rattle.zone_history.proofs.Standing.{stands}
 pub use Rattle.zone_history.proofs.PointerSteps.{finish-pointer}
 
--- a deed that was admitted, by another name of it
+-- an admitted deed is admitted under an equal name
 admitted_as : (g : GeometryFields) (ds : List Done) (d : Done) (e : Deed) → d.deed ≡ e → AreAdmitted g (d ∷ ds) → IsAdmitted g ds e
 admitted_as g ds d e is a = subst (IsAdmitted g ds) is a.0
 
@@ -29,7 +29,7 @@ pub write-pointer : (g : GeometryFields) (ds : List Done) (d : Done) (from block
     → pointer_of g (d ∷ ds) ≡ from + blocks
 write-pointer g ds d from blocks is a e none = write-adds g ds d from blocks (stands g is ds a.1) (write-is g ds d from blocks a e) none
 
--- with a random write area
+-- a Write to a zone with a random write area
 pub write-pointer_window : (g : GeometryFields) (ds : List Done) (d : Done) (from blocks : ℕ) → IsGeometry g → AreAdmitted g (d ∷ ds) → d.deed ≡ deed.Write from blocks → window_of g ds ≡ true
     → pointer_of g (d ∷ ds) ≡ least_multiple g.granule (max (pointer_of g ds) (from + blocks - g.window))
 write-pointer_window g ds d from blocks is a e there = write-moves g ds d from blocks is (stands g is ds a.1) (write-is g ds d from blocks a e) there
@@ -45,7 +45,7 @@ append-pointer g ds d blocks is a e =
 pub commit-pointer : (g : GeometryFields) (ds : List Done) (d : Done) (last : ℕ) → IsGeometry g → AreAdmitted g (d ∷ ds) → d.deed ≡ deed.Commit last → pointer_of g (d ∷ ds) ≡ last + 1
 commit-pointer g ds d last is a e = commit-moves g ds d last is (stands g is ds a.1) e (commit_passes g (sight_of g ds) last (admitted_as g ds d (deed.Commit last) e a).rows)
 
--- a deed by which the pointer stays: a Close, an Offline, an excursion but the first, an Open without a random write area
+-- a deed that leaves the pointer: a Close, an Offline, an excursion of a kind other than 1, an Open without a random write area
 pub still-pointer : (g : GeometryFields) (ds : List Done) (d : Done) → is_still d.deed ≡ true → pointer_of g (d ∷ ds) ≡ pointer_of g ds
 still-pointer g ds d still = pointer-quiet g d ds (still_quiet g d.deed still)
 

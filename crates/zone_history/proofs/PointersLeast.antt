@@ -21,7 +21,7 @@ greatest-writes : (g : GeometryFields) (ds : List Done) (q : ℕ) → greatest (
 greatest-writes g [] q le = tt
 greatest-writes g (d ∷ ds) q le = (λ from blocks e. let same = ap (bound_of g) e in omega arith, greatest-writes g ds q (omega arith))
 
--- what a deed asks of a pointer that covers it
+-- the bound that a deed sets is at most a pointer that covers the deed
 bound_below : (g : GeometryFields) (e : Deed) (q : ℕ) → ((last : ℕ) → e ≡ deed.Commit last → last + 1 ≤ q) → ((from blocks : ℕ) → e ≡ deed.Write from blocks → from + blocks ≤ q + g.window) → bound_of g e ≤ q
 bound_below g (deed.Write from blocks) q commits writes = let held = writes from blocks refl in omega arith
 bound_below g (deed.Commit last) q commits writes = commits last refl

@@ -15,13 +15,13 @@ use Rattle.zone_history.proofs.Ways.{Way, stays, fills, empties, writes, commits
 use Rattle.zone_history.proofs.Stands.{Stands, window-facts}
 use Rattle.zone_history.proofs.PointerSteps.{finish-pointer, write-moves, write-below, commit-moves, window_open-stays}
 
--- the least multiple from the pointer on that lets a write end inside is the pointer, moved by the fewest granules
+-- the least multiple at or after the pointer that lets a write end inside is the pointer moved by the fewest granules
 pub fewest_granules : (g : GeometryFields) (p end q : ℕ) → 1 ≤ g.granule → p % g.granule ≡ 0 → q ≡ least_multiple g.granule (max p (end - g.window)) → FewestGranules g p end q
 fewest_granules g p end q some on is =
     let same : p + past_area g p end * g.granule ≡ q = past_area-least g p end some on ∙ sym is in
     subst (λ (n : ℕ). FewestGranules g p end n) same (past_area-fewest g p end some)
 
--- a write that ends inside leaves it
+-- a write that ends inside leaves the pointer
 inside_stays : (g : GeometryFields) (p end q : ℕ) → 1 ≤ g.granule → p % g.granule ≡ 0 → end ≤ p + g.window → q ≡ least_multiple g.granule (max p (end - g.window)) → q ≡ p
 inside_stays g p end q some on inside is = is ∙ least_multiple-stays g.granule p (end - g.window) some on (omega arith)
 

@@ -1,4 +1,4 @@
--- The deeds of each zone stand to its state, if each of them was admitted.
+-- The deeds of each zone fit its state, if each of them was admitted.
 use Rattle.std.proofs.Common.{◌≡◌, ℕ, ◌%◌, ◌<◌, ◌≤◌, Bool, true, false, cond, List, [], ◌∷◌, None, refl, sym, ap, ◌∙◌, arith, inl, inr}
 use Rattle.std.specs.Prelude.{◌+◌, ◌==◌, ◌&&◌, nat_lt, nat_le, is_ok}
 use Rattle.std.proofs.lemmas.Bool.{cases_Bool, eqb-true, eqb-false, and_right, le-ltb}
@@ -81,7 +81,7 @@ stands-empties g ds d e leads =
 
 -- ---- writes and commits
 
--- the zone is Full where its pointer is at the capacity, and active otherwise
+-- a zone that blocks are added to is Full if its pointer is at the capacity, and active otherwise
 stands-adds : (g : GeometryFields) (ds : List Done) (d : Done) (a : Action) → action_of d.deed ≡ a → adds_blocks a ≡ true → is_active (after a (state_of g ds)) ≡ true
     → was_finished (d ∷ ds) ≡ false → pointer_of g (d ∷ ds) ≤ g.capacity → (was_windowed (d ∷ ds) ≡ true → 1 ≤ g.windows) → Stands g (d ∷ ds)
 stands-adds g ds d a acts adds active unfinished within windows = by_pointer (pointer_of g (d ∷ ds) == g.capacity) refl
@@ -176,17 +176,17 @@ stands g is (d ∷ ds) a = stands-step g ds d is (way_of g ds d.deed a.0) (stand
 pub active_below : (g : GeometryFields) (ds : List Done) → IsGeometry g → AreAdmitted g ds → is_active (state_of g ds) ≡ true → pointer_of g ds < g.capacity
 active_below g ds is a active = (stands g is ds a).below active
 
--- that of a Full zone is the capacity
+-- the pointer of a Full zone is at the capacity
 pub full_pointer : (g : GeometryFields) (ds : List Done) → IsGeometry g → AreAdmitted g ds → is_full (state_of g ds) ≡ true → pointer_of g ds ≡ g.capacity
 full_pointer g ds is a full = (stands g is ds a).full full
 
--- that of a zone with a random write area stands on a granule
+-- the pointer of a zone with a random write area is on a granule
 pub window_granular : (g : GeometryFields) (ds : List Done) → IsGeometry g → AreAdmitted g ds → window_of g ds ≡ true → pointer_of g ds % g.granule ≡ 0
 window_granular g ds is a there = (window-facts g ds is (stands g is ds a) there).granular
 
 -- ---- blocks
 
--- a deed that was admitted writes no block past the capacity
+-- an admitted deed writes no block past the capacity
 none_past : (g : GeometryFields) (ds : List Done) (e : Deed) (b : ℕ) → IsAdmitted g ds e → g.capacity ≤ b → (nat_le (start_of (pointer_of g ds) e) b && nat_lt b (start_of (pointer_of g ds) e + blocks_of e)) ≡ false
 none_past g ds (deed.Write from blocks) b a past = let ends = (write_passes g (sight_of g ds) from blocks a.rows).within in and_right _ _ (le-ltb b (from + blocks) (omega arith))
 none_past g ds (deed.Append blocks) b a past =

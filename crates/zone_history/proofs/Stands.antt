@@ -1,4 +1,4 @@
--- How the deeds of a zone stand to its state.
+-- How the deeds of a zone fit its state.
 use Rattle.std.proofs.Common.{◌≡◌, ℕ, ◌%◌, ◌<◌, ◌≤◌, true, false, List, None, arith, inl, inr}
 use Rattle.std.proofs.lemmas.Bool.{cases_Bool}
 use Rattle.zns_types.specs.declared.fields.GeometryFields.{GeometryFields}
@@ -9,7 +9,7 @@ use Rattle.zone_history.specs.Histories.{Done, pointer_since, pointer_of, state_
 use Rattle.zone_history.proofs.Transitions.{is_live, active_live, live_empty}
 use Rattle.zone_history.proofs.Ways.{window-parts, no_window-parts}
 
--- the deeds of a zone that is Empty have left nothing
+-- the deeds of an Empty zone have left nothing
 pub record IsBare (g : GeometryFields) (ds : List Done) : Type 0 where
   pub pointer : pointer_of g ds ≡ 0
   pub unopened : was_windowed ds ≡ false
@@ -24,7 +24,7 @@ pub record Stands (g : GeometryFields) (ds : List Done) : Type 0 where
   pub within : pointer_of g ds ≤ g.capacity
   pub windows : was_windowed ds ≡ true → 1 ≤ g.windows
 
--- the pointer of a zone for which a random write area was asked stands on a granule
+-- the pointer of a zone that asked for a random write area is on a granule
 granular : (g : GeometryFields) (ds : List Done) → was_finished ds ≡ false → was_windowed ds ≡ true → pointer_of g ds % g.granule ≡ 0
 unfolding pointer_since
 granular g ds unfinished opened = rw (unfinished, opened) (least_multiple-mod g.granule _)
@@ -51,14 +51,14 @@ window-facts g ds is s there =
       granules = is.windows.granules (s.windows parts.1);
     }
 
--- a zone that may go on and has no random write area asked for none
+-- a zone that is Empty or active, and has no random write area, asked for none
 pub unopened : (g : GeometryFields) (ds : List Done) → Stands g ds → is_live (state_of g ds) ≡ true → window_of g ds ≡ false → was_windowed ds ≡ false
 unopened g ds s live none = elim (cases_Bool (is_active (state_of g ds))) [
   | inl active ↦ no_window-parts g ds active none
   | inr other ↦ (s.bare (live_empty (state_of g ds) live other)).unopened
 ]
 
--- a zone that may go on has its pointer before the capacity
+-- the pointer of a zone that is Empty or active is below the capacity
 pub live_below : (g : GeometryFields) (ds : List Done) → IsGeometry g → Stands g ds → is_live (state_of g ds) ≡ true → pointer_of g ds < g.capacity
 live_below g ds is s live = elim (cases_Bool (is_active (state_of g ds))) [
   | inl active ↦ s.below active

@@ -1,4 +1,4 @@
--- What one more deed makes of a zone: its state, its pointer and its blocks.
+-- The effect of one more deed on a zone: its state, its pointer and its blocks.
 use Rattle.std.proofs.Common.{◌≡◌, ℕ, ◌+◌, ◌-◌, ◌≤◌, max, Bool, true, false, cond, List, [], ◌∷◌, Some, None, refl, sym, ap, ◌∙◌, arith}
 use Rattle.std.specs.Prelude.{◌&&◌, ◌||◌, nat_lt, nat_le}
 use Rattle.std.proofs.lemmas.Bool.{or_right}
@@ -13,7 +13,7 @@ use Rattle.drive_rules.specs.Blocks.{block_at}
 use Rattle.drive_rules.specs.Deeds.{action_of, is_reset, is_finish, asks_window, blocks_of, start_of, bound_of}
 use Rattle.zone_history.specs.Histories.{Done, since, before_first_in, after_first_in, greatest, total, opens_window, count_of, asked_by, pointer_since, pointer_of, state_of, was_windowed, was_finished, block_of}
 
--- A deed by which the pointer and the blocks stay: no reset and no finish, no write, no commit, no random write area.
+-- A deed that leaves the pointer and the blocks: no reset, finish, write or commit, and no request for a random write area.
 pub record IsQuiet (g : GeometryFields) (e : Deed) : Type 0 where
   pub no_reset : is_reset e ≡ false
   pub no_finish : is_finish e ≡ false
@@ -27,7 +27,7 @@ pub state-step : (g : GeometryFields) (d : Done) (ds : List Done) → state_of g
 unfolding state_of
 state-step g d ds = refl
 
--- where the pointer doesn't matter
+-- the state, for an action that adds no blocks, whatever the pointer is
 pub state-led : (g : GeometryFields) (d : Done) (ds : List Done) → adds_blocks (action_of d.deed) ≡ false → state_of g (d ∷ ds) ≡ after (action_of d.deed) (state_of g ds)
 unfolding state_of
 state-led g d ds other = rw other refl
@@ -53,19 +53,19 @@ pub pointer-finish : (g : GeometryFields) (d : Done) (ds : List Done) → is_res
 unfolding pointer_since
 pointer-finish g d ds keeps finish = rw (keeps, finish) refl
 
--- without a random write area the blocks that are written are added
+-- without a random write area, the pointer moves by the blocks that are written
 pub pointer-add : (g : GeometryFields) (d : Done) (ds : List Done) → is_reset d.deed ≡ false → is_finish d.deed ≡ false → asks_window d.deed ≡ false
     → was_finished ds ≡ false → was_windowed ds ≡ false → pointer_of g (d ∷ ds) ≡ blocks_of d.deed + pointer_of g ds
 unfolding pointer_since
 pointer-add g d ds keeps goes_on no_open unfinished unopened = rw (keeps, goes_on, no_open, unfinished, unopened) refl
 
--- the random write area that is asked for first begins at the least multiple of the granule from the pointer on
+-- a random write area begins at the least multiple of the granule at or after the pointer, when it is first asked for
 pub pointer-opened : (g : GeometryFields) (d : Done) (ds : List Done) → is_reset d.deed ≡ false → is_finish d.deed ≡ false → asks_window d.deed ≡ true
     → was_finished ds ≡ false → was_windowed ds ≡ false → pointer_of g (d ∷ ds) ≡ least_multiple g.granule (max (pointer_of g ds) 0)
 unfolding pointer_since
 pointer-opened g d ds keeps goes_on opens unfinished unopened = rw (keeps, goes_on, opens, unfinished, unopened) refl
 
--- with a random write area the pointer goes on to the least multiple that reaches what is asked
+-- with a random write area, the pointer moves to the least multiple at or after what the deed asks for
 pub pointer-windowed : (g : GeometryFields) (d : Done) (ds : List Done) → 1 ≤ g.granule → is_reset d.deed ≡ false → is_finish d.deed ≡ false
     → was_finished ds ≡ false → was_windowed ds ≡ true → pointer_of g (d ∷ ds) ≡ least_multiple g.granule (max (pointer_of g ds) (bound_of g d.deed))
 unfolding pointer_since
@@ -78,7 +78,7 @@ pointer-windowed g d ds some keeps goes_on unfinished opened =
     let turn : max (least_multiple g.granule (max first later)) bound ≡ max bound (least_multiple g.granule (max first later)) = omega arith in
     rw (keeps, any, goes_on, unfinished, opened) (ap (least_multiple g.granule) order ∙ sym (least_multiple-max g.granule bound (max first later) some) ∙ ap (least_multiple g.granule) (sym turn))
 
--- where a deed asks nothing and writes nothing, what the area covers stays, as does what is written without one
+-- if a deed asks for nothing and writes nothing, both what the area covers and what is written without one stay
 same_cover : (opened : Bool) (granule : ℕ) (g : GeometryFields) (d : Done) (ds before rest : List Done) → blocks_of d.deed ≡ 0 → bound_of g d.deed ≡ 0 →
     cond opened (least_multiple granule (max (total count_of (cond opened before (d ∷ ds))) (greatest (asked_by g) (cond opened (d ∷ rest) [])))) (blocks_of d.deed + total count_of ds)
     ≡ cond opened (least_multiple granule (max (total count_of before) (greatest (asked_by g) rest))) (total count_of ds)
@@ -104,7 +104,7 @@ pub block-step : (g : GeometryFields) (d : Done) (ds : List Done) (b start : ℕ
 unfolding block_of
 block-step g d ds b start keeps begins = rw (keeps, begins) refl
 
--- no block lies among none
+-- a range of no blocks contains no block
 pub among_none : (start b blocks : ℕ) → blocks ≡ 0 → (nat_le start b && nat_lt b (start + blocks)) ≡ false
 among_none start b blocks none = grind (arith, nat_tests)
 

@@ -1,4 +1,4 @@
--- What a zone uses after an action, by its state alone.
+-- What a zone uses after an action, which depends on its state alone.
 use Rattle.std.proofs.Common.{◌≡◌, ℕ, Bool, true, false, Result, Err, refl, inl, inr}
 use Rattle.std.specs.Prelude.{◌&&◌, ◌⊎◌, not}
 use Rattle.std.proofs.lemmas.Bool.{and_parts, and_from, not-true, not_from_false}
@@ -16,7 +16,7 @@ use Rattle.drive_rules.specs.ZoneRows.{Zone}
 use Rattle.drive_rules.specs.Deeds.{action_of, asks_window, need_for, use_of, opens}
 use Rattle.zone_history.proofs.Transitions.{led_to, by_kind, implies, implied}
 
--- a zone that leads from s to t uses no active and no open resource that it neither used nor needed
+-- a zone that goes from s to t uses no active or open resource that it neither used nor needed
 pub record LeadsWithin (s t : State) (need : Need) : Type 0 where
   pub active : is_active t ≡ true → (is_active s ≡ true) ⊎ (need.active ≡ true)
   pub opened : is_opened t ≡ true → (is_opened s ≡ true) ⊎ (need.opened ≡ true)
@@ -97,7 +97,7 @@ commit_within ExplicitlyOpened = record { active = λ on. inl refl; opened = λ 
 commit_within Closed = record { active = λ on. inl refl; opened = λ on. inr refl }
 commit_within _ = record { active = λ on. absurd (cc on); opened = λ on. absurd (cc on) }
 
--- What a zone uses after a deed it used before, or the deed needs it.
+-- What a zone uses after a deed was either used before or needed by the deed.
 pub leads_within : (e : Deed) (zone : Zone) → LeadsWithin zone.state (after (action_of e) zone.state) (need_for e zone)
 leads_within (deed.Write from blocks) zone = write_within zone.state
 leads_within (deed.Append blocks) zone = write_within zone.state
@@ -111,7 +111,7 @@ leads_within (deed.Excursion kind) zone = none_taken zone.state (excursion kind 
 
 -- ---- what a deed needs
 
--- a need asks only for what isn't used
+-- only what isn't used yet is needed
 pub record AsksNew (used need : Need) : Type 0 where
   pub active : need.active ≡ true → used.active ≡ false
   pub opened : need.opened ≡ true → used.opened ≡ false
@@ -142,14 +142,14 @@ asks_new (deed.Open window) zone = record {
 asks_new (deed.Commit last) zone = record { active = λ asks. absurd (cc asks); opened = closed_unused zone.state; window = λ asks. absurd (cc asks) }
 asks_new _ zone = record { active = λ asks. absurd (cc asks); opened = λ asks. absurd (cc asks); window = λ asks. absurd (cc asks) }
 
--- only from Empty is an active resource needed
+-- only an Empty zone needs an active resource
 pub needs_empty : (e : Deed) (zone : Zone) → (need_for e zone).active ≡ true → is_empty zone.state ≡ true
 needs_empty (deed.Write from blocks) zone need = need
 needs_empty (deed.Append blocks) zone need = need
 needs_empty (deed.Open window) zone need = need
 needs_empty _ zone need = absurd (cc need)
 
--- an Open that asks for a random write area needs one where there is none
+-- an Open that asks for a random write area needs one if the zone has none
 pub needs_window : (e : Deed) (zone : Zone) → asks_window e ≡ true → zone.window ≡ false → (need_for e zone).window ≡ true
 needs_window (deed.Open window) zone asks none = and_from window (not zone.window) asks (not_from_false _ none)
 needs_window _ zone asks none = absurd (cc asks)

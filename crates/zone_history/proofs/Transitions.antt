@@ -1,4 +1,4 @@
--- From which states actions and deeds lead to which.
+-- The states from which actions and deeds lead, and where they lead.
 use Rattle.std.proofs.Common.{◌≡◌, ℕ, Bool, true, false, cond, Result, Ok, Err, refl}
 use Rattle.std.specs.Prelude.{◌==◌, ◌&&◌, not, is_ok}
 use Rattle.std.proofs.lemmas.Bool.{and_parts, not-true}
@@ -12,7 +12,7 @@ use Rattle.drive_rules.specs.declared.deed.Deed.{Deed}
 use Rattle.drive_rules.specs.declared.deed.Deed.TheVariants as deed
 use Rattle.drive_rules.specs.Deeds.{action_of, is_finish}
 
--- Deeds by which a zone's pointer and blocks stay. (An Open that asks for a random write area isn't one of them.)
+-- Deeds that leave a zone's pointer and blocks. (An Open that asks for a random write area isn't one of them.)
 abbrev pub is_still : Deed → Bool
 is_still (deed.Open window) = not window
 is_still deed.Close = true
@@ -24,7 +24,7 @@ is_still _ = false
 abbrev pub is_live : State → Bool
 is_live = by_state true true true true false false false
 
--- where a result of the table leads, and the same state where it refuses
+-- the state where a result of the table leads, or the same state if the table refuses
 abbrev pub led_to : Result State Status → State → State
 led_to r s = elim r [ Ok t ↦ t | Err _ ↦ s ]
 
@@ -35,7 +35,7 @@ pub implied : (a b : Bool) → implies a b ≡ true → a ≡ true → b ≡ tru
 implied true b e is = e
 implied false b e is = absurd cc
 
--- a zone that becomes live or Full was so, and none becomes Empty
+-- a zone that is live or Full afterwards was so before, and no zone becomes Empty
 abbrev keeps_kind : State → Result State Status → Bool
 keeps_kind s (Ok t) = implies (is_live t) (is_live s) && not (is_empty t) && implies (is_full t) (is_full s)
 keeps_kind s (Err c) = true
@@ -80,7 +80,7 @@ turns_offline-keeps : (s : State) → keeps_kind s (turns_offline s) ≡ true
 turns_offline-keeps Empty = refl
 turns_offline-keeps _ = refl
 
--- what holds of each of the results that kinds of excursions have
+-- what holds of each result that an excursion can have holds of the result of any kind
 pub by_kind : (P : Result State Status → Type 0) (kind : ℕ) (s : State) → ((kind == 1) ≡ true → P (controller_finishes s)) → P (finish_recommended s) → P (reset_recommended s) → P (turns_read_only s)
     → P (turns_offline s) → P refused → P (excursion kind s)
 by_kind P kind s one two three four five none = first (kind == 1) refl
@@ -101,7 +101,7 @@ still_excursion kind s other =
     by_kind (λ r. is_ok r ≡ true → KeepsKind s (led_to r s)) kind s (λ one ok. absurd (cc (one, other))) (kind_kept s _ (finish_recommended-keeps s)) (kind_kept s _ (reset_recommended-keeps s))
     (kind_kept s _ (turns_read_only-keeps s)) (kind_kept s _ (turns_offline-keeps s)) (λ ok. absurd (cc ok))
 
--- a deed by which a zone's pointer stays
+-- a deed that leaves a zone's pointer
 pub still_keeps : (e : Deed) (s : State) → is_still e ≡ true → is_ok (go (action_of e) s) ≡ true → KeepsKind s (after (action_of e) s)
 still_keeps (deed.Open window) s still ok = kind_kept s (go action.Open s) (open_keeps s) ok
 still_keeps deed.Close s still ok = kind_kept s (go action.Close s) (close_keeps s) ok
@@ -134,7 +134,7 @@ finish_to ReadOnly ok = absurd cc
 finish_to Offline ok = absurd cc
 finish_to _ ok = refl
 
--- a finish, and by the controller too, leads to Full
+-- a finish leads to Full, also when the controller does it
 pub finish_full : (e : Deed) (s : State) → is_finish e ≡ true → is_ok (go (action_of e) s) ≡ true → after (action_of e) s ≡ Full
 finish_full deed.Finish s finish ok = finish_to s ok
 finish_full (deed.Excursion kind) s finish ok =

@@ -1,4 +1,4 @@
--- What a deed that was admitted is to its zone, case by case.
+-- The cases of a deed that its zone admitted.
 use Rattle.std.proofs.Common.{◌≡◌, ℕ, ◌+◌, ◌*◌, ◌-◌, ◌≤◌, true, false, List, refl, inl, inr}
 use Rattle.std.specs.Prelude.{◌==◌, is_ok}
 use Rattle.std.proofs.lemmas.Bool.{cases_Bool, and_parts, not-true, not_from_false}
@@ -15,7 +15,7 @@ use Rattle.zone_history.specs.Admitted.{IsAdmitted}
 use Rattle.zone_history.proofs.Steps.{IsQuiet}
 use Rattle.zone_history.proofs.Transitions.{is_still}
 
--- a Write or an Append of so many blocks from an offset on
+-- a Write or an Append of `blocks` blocks at offset `from`
 pub record IsWrite (g : GeometryFields) (ds : List Done) (e : Deed) (from blocks : ℕ) : Type 0 where
   pub acts : action_of e ≡ action.Write
   pub leads : is_ok (go action.Write (state_of g ds)) ≡ true

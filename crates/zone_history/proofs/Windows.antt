@@ -1,4 +1,4 @@
--- Which zones have a random write area after one more deed, and which excursions they had.
+-- Whether a zone has a random write area after one more deed, and which excursions it had.
 use Rattle.std.proofs.Common.{◌≡◌, ℕ, Bool, true, false, List, ◌∷◌, refl, sym, ap, ◌∙◌, inl, inr}
 use Rattle.std.specs.Prelude.{◌&&◌, ◌||◌, ◌⊎◌}
 use Rattle.std.proofs.lemmas.Bool.{cases_Bool}
@@ -25,7 +25,7 @@ same_windows : (now asks opened was : Bool) → (now ≡ true → opened ≡ was
 same_windows true asks opened was k = ap (λ (b : Bool). asks || b) (k refl)
 same_windows false asks opened was k = refl
 
--- an active zone has one where it was asked for, whatever deed made the zone active
+-- an active zone has a random write area if it asked for one, whatever deed made it active
 opened_before : (g : GeometryFields) (ds : List Done) → Stands g ds → (needed : Bool) → (needed ≡ true → was_windowed ds ≡ false) → (is_active (state_of g ds) ≡ true) ⊎ (needed ≡ true) → was_windowed ds ≡ window_of g ds
 unfolding window_of
 opened_before g ds s needed k (inl active) = rw active refl
@@ -39,7 +39,7 @@ window-by : (g : GeometryFields) (ds : List Done) (d : Done) → is_reset d.deed
 unfolding window_of
 window-by g ds d keeps = rw keeps refl
 
--- A zone that is active after a deed has a random write area where the deed asks for one, or the zone had one.
+-- A zone that is active after a deed has a random write area if the deed asks for one or the zone had one.
 pub window-step : (g : GeometryFields) (ds : List Done) (d : Done) → IsGeometry g → AreAdmitted g (d ∷ ds) → is_reset d.deed ≡ false
     → window_of g (d ∷ ds) ≡ (is_active (state_of g (d ∷ ds)) && (asks_window d.deed || window_of g ds))
 window-step g ds d is a keeps =

@@ -1,5 +1,4 @@
--- What was done to one zone, the newest deed first, and what that has made of it. Everything is found by looking back over
--- the deeds.
+-- The deeds done to one zone, the newest first, and what they make of it. Everything is found by looking back over the deeds.
 use Rattle.std.specs.Prelude.{ℕ, ◌+◌, ◌-◌, max, Bool, ◌&&◌, ◌||◌, nat_lt, nat_le, if◌then◌else◌, List, [], ◌∷◌, Option, Some, None}
 use Rattle.std.specs.List.{list_any}
 use Rattle.zns_types.specs.declared.fields.GeometryFields.{GeometryFields}
@@ -27,12 +26,12 @@ abbrev pub since : List Done → List Done
 since [] = []
 since (d ∷ ds) = if is_reset d.deed then [] else d ∷ since ds
 
--- the deeds before the first that passes; all where none does
+-- the deeds before the oldest that passes the test, or all deeds if none does
 abbrev pub before_first_in : (Done → Bool) → List Done → List Done
 before_first_in test [] = []
 before_first_in test (d ∷ ds) = if list_any test ds then before_first_in test ds else if test d then ds else d ∷ ds
 
--- the deeds after the first that passes
+-- the deeds after the oldest that passes the test
 abbrev pub after_first_in : (Done → Bool) → List Done → List Done
 after_first_in test [] = []
 after_first_in test (d ∷ ds) = if list_any test ds then d ∷ after_first_in test ds else []
@@ -59,10 +58,10 @@ asked_by g d = bound_of g d.deed
 
 -- ---- the write pointer
 
--- The pointer that deeds leave which all came after the last reset, as an offset: the capacity where the zone was
--- finished; where it was opened with a random write area, the least multiple of the granule that covers what was
--- written before, every commit, and every Write but its last window; else the blocks that were written.
--- (Zoned Namespace Command Set Specification 1.1, 2.1.1.2.1 and 2.1.1.5.)
+-- The pointer, as an offset, after deeds that all came after the last reset. If the zone was finished, it is the capacity. If the zone was
+-- opened with a random write area, it is the least multiple of the granule that covers what was written before, every commit, and every
+-- Write except its last window. Otherwise it is the number of blocks written. (Zoned Namespace Command Set Specification 1.1, 2.1.1.2.1 and
+-- 2.1.1.5.)
 unfoldable pub pointer_since : GeometryFields → List Done → ℕ
 pointer_since g ds =
     if list_any finishes ds then g.capacity
@@ -80,7 +79,7 @@ pointer_of g ds = pointer_since g (since ds)
 
 -- ---- the state and the random write area
 
--- Empty, until the last deed led on.
+-- Empty at first, and then where the last deed led.
 unfoldable pub state_of : GeometryFields → List Done → State
 state_of g [] = Empty
 state_of g (d ∷ ds) = state_after g.capacity (action_of d.deed) (pointer_of g (d ∷ ds)) (state_of g ds)
@@ -93,11 +92,11 @@ was_windowed ds = list_any opens_window (since ds)
 abbrev pub was_finished : List Done → Bool
 was_finished ds = list_any finishes (since ds)
 
--- An active zone that was opened with a random write area since its last reset has one.
+-- Whether the zone has a random write area: it does if it is active and was opened with one since its last reset.
 unfoldable pub window_of : GeometryFields → List Done → Bool
 window_of g ds = is_active (state_of g ds) && was_windowed ds
 
--- what the rows of a refusal read of the zone
+-- what refusal rows see of the zone
 abbrev pub sight_of : GeometryFields → List Done → Zone
 sight_of g ds = record { state = state_of g ds; window = window_of g ds; pointer = pointer_of g ds }
 
@@ -114,17 +113,17 @@ block_of g (d ∷ ds) b =
     start : ℕ
     start = start_of (pointer_of g ds) d.deed
 
--- a block as a Read gives it
+-- a block as a Read returns it
 abbrev pub seen_of : GeometryFields → List Done → ℕ → List ℕ
 seen_of g ds b = seen_block (block_len g) (block_of g ds b)
 
--- A block below the pointer is committed, and every block that a Read Only zone can have.
+-- A block below the pointer is committed, and so is every block of a Read Only zone below the capacity.
 abbrev pub is_committed : GeometryFields → List Done → ℕ → Bool
 is_committed g ds b = nat_lt b (pointer_of g ds) || (nat_lt b g.capacity && is_read_only (state_of g ds))
 
 -- ---- what the controller recommends
 
--- an excursion of a kind since the last reset
+-- the zone had an excursion of this kind since the last reset
 abbrev pub had : List Done → ℕ → Bool
 had ds kind = list_any (λ d. is_excursion kind d.deed) (since ds)
 

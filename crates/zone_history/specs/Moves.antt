@@ -1,5 +1,5 @@
--- How a deed moves the pointer of a zone with a random write area, what stays of committed blocks, and that the table of
--- transitions allows each deed.
+-- How a deed moves the pointer of a zone with a random write area, that committed blocks stay, and that the table of transitions allows
+-- each deed.
 use Rattle.std.specs.Prelude.{◌≡◌, ◌≢◌, ℕ, ◌+◌, ◌<◌, ◌≤◌, true, false, List, [], ◌∷◌, is_ok}
 use Rattle.zns_types.specs.declared.fields.GeometryFields.{GeometryFields}
 use Rattle.zns_types.specs.States.{is_offline}
@@ -13,9 +13,9 @@ use Rattle.drive_rules.specs.Deeds.{action_of, is_reset, is_finish}
 use Rattle.zone_history.specs.Histories.{Done, since, before_first_in, after_first_in, total, opens_window, count_of, pointer_of, state_of, window_of, seen_of, is_committed}
 use Rattle.zone_history.specs.Admitted.{AreAdmitted}
 
--- How a deed moves the pointer of a zone with a random write area from p to q: a commit moves it past its last block; a
--- Write that ends past the area moves it by the fewest granules that let it end inside, and not to the capacity; a
--- reset leads to the start, and a finish, also by the controller, to the capacity.
+-- How a deed moves the pointer of a zone with a random write area from p to q: a commit moves it past its last block; a Write that ends
+-- past the area moves it by the fewest granules that let it end inside, and never to the capacity; a reset moves it to the start, and a
+-- finish, also by the controller, to the capacity.
 pub data HowMoved (g : GeometryFields) (d : Deed) (p q : ℕ) : Type 0 where
   committed : (last : ℕ) → d ≡ deed.Commit last → q ≡ last + 1 → HowMoved g d p q
   overrun : (from blocks : ℕ) → d ≡ deed.Write from blocks → p + g.window < from + blocks → FewestGranules g p (from + blocks) q → q < g.capacity → HowMoved g d p q
@@ -32,17 +32,17 @@ DeedMovesPointer = (g : GeometryFields) (ds : List Done) (d : Done) → IsGeomet
 abbrev pub CoversWritten : List Done → ℕ → Type 0
 CoversWritten ds q = total count_of (before_first_in opens_window ds) ≤ q
 
--- past the last block of each commit
+-- after the last block of each commit
 abbrev pub CoversCommits : List Done → ℕ → Type 0
 CoversCommits [] q = Unit {0}
 CoversCommits (d ∷ ds) q = ((last : ℕ) → d.deed ≡ deed.Commit last → last + 1 ≤ q) × CoversCommits ds q
 
--- where each Write ends inside the random write area
+-- at a place that lets each Write end inside the random write area
 abbrev pub HoldsWrites : GeometryFields → List Done → ℕ → Type 0
 HoldsWrites g [] q = Unit {0}
 HoldsWrites g (d ∷ ds) q = ((from blocks : ℕ) → d.deed ≡ deed.Write from blocks → from + blocks ≤ q + g.window) × HoldsWrites g ds q
 
--- a multiple of the granule with all three
+-- a multiple of the granule that satisfies all three
 pub record IsBoundary (g : GeometryFields) (ds : List Done) (q : ℕ) : Type 0 where
   pub multiple : IsMultipleFrom g.granule 0 q
   pub written : CoversWritten ds q

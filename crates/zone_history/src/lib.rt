@@ -1,4 +1,4 @@
-//! What was done to one zone, and the laws of what that has made of it.
+//! The deeds done to one zone, and the laws of what they make of it.
 #![tactic(auto)]
 
 mod deed_laws;

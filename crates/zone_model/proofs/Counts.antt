@@ -1,4 +1,4 @@
--- What zones use, all together, after the use of one or two of them has changed.
+-- The resources that zones use in total, after the use of one or two of them has changed.
 use Rattle.std.proofs.Common.{◌≡◌, ◌≢◌, ℕ, ◌<◌, ◌≤◌, Bool, true, false, cond, refl, sym, ap, ◌∙◌, inl, inr}
 use Rattle.std.specs.Prelude.{◌==◌, ◌⊎◌}
 use Rattle.std.proofs.lemmas.Bool.{cases_eq, eq-eqb, ne_eqb}
@@ -33,7 +33,7 @@ counted-set_two g old new y z apart y_lt z_lt same =
     counted-set g mid new z z_lt (λ x other. off_z x other (cases_eq x y))
     ∙ rw (mid-other z (λ e. apart (sym e)), sym (mid-here y refl)) (ap (recounted (old z) (new z)) (counted-set g old mid y y_lt mid-other))
   where
-    -- only the first has
+    -- only the first has changed
     mid : ℕ → Need
     mid x = cond (x == y) (new x) (old x)
 
@@ -49,7 +49,7 @@ counted-set_two g old new y z apart y_lt z_lt same =
 
 -- ---- one zone among them
 
--- one resource is counted for a zone that uses it, and one is left uncounted for a zone that doesn't
+-- a zone that uses a resource is counted, and a zone that doesn't is left out
 pub record CountsOne (zones n : ℕ) (uses : Bool) : Type 0 where
   pub used : uses ≡ true → 1 ≤ n
   pub unused : uses ≡ false → n < zones
@@ -62,7 +62,7 @@ pub record CountsUse (g : GeometryFields) (n : Limits) (u : Need) : Type 0 where
 counted-one : (test : ℕ → Bool) (z n : ℕ) → z < n → CountsOne n (count_below test n) (test z)
 counted-one test z n lt = record { used = count-used test z n lt; unused = count-unused test z n lt }
 
--- what zones use counts what each of them uses
+-- the total counts what each zone uses
 pub counted-use : (g : GeometryFields) (use_by : ℕ → Need) (z : ℕ) → z < g.zones → CountsUse g (counted g use_by) (use_by z)
 unfolding counted
 counted-use g use_by z lt = record {

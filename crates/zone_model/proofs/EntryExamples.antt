@@ -1,4 +1,4 @@
--- Worked examples on completion entries and bytes that are read, computed.
+-- Worked examples on completion entries and on bytes that are read, computed.
 use Rattle.std.proofs.Common.{◌≡◌, true, false, List, [], ◌∷◌, ◌++◌, map, length, refl}
 use Rattle.std.specs.Prelude.{replicate}
 use Rattle.std.specs.List.{flat_map}
@@ -18,7 +18,7 @@ use Rattle.zone_model.specs.Replies.{reply_bytes}
 use Rattle.zone_model.specs.Sessions.{result_bytes}
 use Rattle.zone_model.proofs.ExampleDrive.{drive, filled, write, read, append, open_zone, open_with_window, posts, reads, set_notices, event_request}
 
--- a refused write posts its entry with Do Not Retry, and a command that wants an open zone without
+-- the entry of a refused write has Do Not Retry, and that of a command that lacks an open resource doesn't
 away_from_pointer-posts : map (flat_map entry_bytes) (posts drive [] (write 0 1 (filled 1 0x11) ∷ write 2 1 (filled 1 0x11) ∷ [])) ≡ (replicate 8 0 ++ (1 ∷ 0 ∷ 1 ∷ 0 ∷ 1 ∷ 0 ∷ 1 ∷ 0 ∷ [])) ∷ (replicate 8 0 ++ (2 ∷ 0 ∷ 1 ∷ 0 ∷ 1 ∷ 0 ∷ 0x79 ∷ 0x83 ∷ [])) ∷ []
 unfolding io_command admin_command deeds pointer_since state_of window_of block_of attributes_of counted closed_zones had_excursion cleared waited changed_zone changed enabled masked pending waiting status evicted zone_deed fires answer answered_back answered acts_on entries_on dwords_of posted reply_bytes result_bytes
 away_from_pointer-posts = refl
@@ -32,7 +32,7 @@ append-results : map (map (λ (c : Cqe). c.dw0)) (posts drive [] (append 64 2 (f
 unfolding io_command admin_command deeds pointer_since state_of window_of block_of attributes_of counted closed_zones had_excursion cleared waited changed_zone changed enabled masked pending waiting status evicted zone_deed fires answer answered_back answered acts_on entries_on dwords_of posted reply_bytes result_bytes
 append-results = refl
 
--- in a ring of two entries heads go round, and the phase turns with each round; a request that waits has no entry
+-- in a ring of two entries heads wrap around, and the phase turns with each round; a request that waits has no entry
 abbrev pub shallow : GeometryFields
 shallow = record drive { depth = 2 }
 
@@ -50,7 +50,7 @@ read_written : reads drive (answered drive (open_with_window 0 ∷ write 4 2 (fi
 unfolding io_command admin_command deeds pointer_since state_of window_of block_of attributes_of counted closed_zones had_excursion cleared waited changed_zone changed enabled masked pending waiting status evicted zone_deed fires answer answered_back answered acts_on entries_on dwords_of posted reply_bytes result_bytes
 read_written = refl
 
--- a Read over two zones, where it may cross from one to the other and where it may not
+-- a Read across two zones, on a drive that allows it and on one that doesn't
 abbrev pub crossing : GeometryFields
 crossing = record drive { flags = 1 }
 
@@ -65,7 +65,7 @@ written-descriptors : map (λ z. descriptor_bytes (descriptor drive (answered dr
 unfolding io_command admin_command deeds pointer_since state_of window_of block_of attributes_of counted closed_zones had_excursion cleared waited changed_zone changed enabled masked pending waiting status evicted zone_deed fires answer answered_back answered acts_on entries_on dwords_of posted reply_bytes result_bytes
 written-descriptors = refl
 
--- the result of no act: the order, four descriptors and the page
+-- the result of an empty session: the order, four descriptors and the page
 empty_result : length (result_bytes drive [] []) ≡ 4364
 unfolding io_command admin_command deeds pointer_since state_of window_of block_of attributes_of counted closed_zones had_excursion cleared waited changed_zone changed enabled masked pending waiting status evicted zone_deed fires answer answered_back answered acts_on entries_on dwords_of posted reply_bytes result_bytes
 empty_result = refl

@@ -20,7 +20,7 @@ use Rattle.zone_model.proofs.ExampleDrive.{drive, act_on, posts, reads, set_noti
 abbrev pub read_only_zone : List Act
 read_only_zone = set_notices 1 ∷ event_request 9 ∷ excursion 3 64 4 ∷ []
 
--- as entries: a Success; nothing; a Success, and the event
+-- its entries: a Success; nothing; a Success, and the event
 read_only_zone-posts : map (flat_map entry_bytes) (posts drive [] read_only_zone) ≡ (replicate 8 0 ++ (1 ∷ 0 ∷ 0 ∷ 0 ∷ 1 ∷ 0 ∷ 1 ∷ 0 ∷ [])) ∷ [] ∷ (replicate 8 0 ++ (3 ∷ 0 ∷ 0 ∷ 0 ∷ 3 ∷ 0 ∷ 1 ∷ 0 ∷ 0x02 ∷ 0xef ∷ 0xbf ∷ 0 ∷ 1 ∷ 0 ∷ 0 ∷ 0 ∷ 3 ∷ 0 ∷ 0 ∷ 0 ∷ 9 ∷ 0 ∷ 1 ∷ 0 ∷ [])) ∷ []
 unfolding io_command admin_command deeds pointer_since state_of window_of block_of attributes_of counted closed_zones had_excursion cleared waited changed_zone changed enabled masked pending waiting status evicted zone_deed fires answer answered_back answered acts_on entries_on dwords_of posted reply_bytes
 read_only_zone-posts = refl
@@ -35,18 +35,18 @@ five_requests : map (flat_map entry_bytes) (posts drive [] (event_request 1 ∷ 
 unfolding io_command admin_command deeds pointer_since state_of window_of block_of attributes_of counted closed_zones had_excursion cleared waited changed_zone changed enabled masked pending waiting status evicted zone_deed fires answer answered_back answered acts_on entries_on dwords_of posted reply_bytes
 five_requests = refl
 
--- an excursion while no request waits leaves an event, which the next request is answered with
+-- an excursion while no request waits leaves an event, which answers the next request
 pending-facts :
     (map (map (λ (c : Cqe). c.cid)) (posts drive [] (set_notices 1 ∷ excursion 2 64 4 ∷ event_request 6 ∷ [])) ≡ (1 ∷ []) ∷ (2 ∷ []) ∷ (6 ∷ []) ∷ [])
     × (map (map (λ (c : Cqe). c.dw0)) (posts drive [] (set_notices 1 ∷ excursion 2 64 4 ∷ event_request 6 ∷ [])) ≡ (0 ∷ []) ∷ (0 ∷ []) ∷ (0x00bfef02 ∷ []) ∷ [])
 unfolding io_command admin_command deeds pointer_since state_of window_of block_of attributes_of counted closed_zones had_excursion cleared waited changed_zone changed enabled masked pending waiting status evicted zone_deed fires answer answered_back answered acts_on entries_on dwords_of posted reply_bytes
 pending-facts = (refl, refl)
 
--- which commands the entries of each act answer
+-- the identifiers of the commands that the entries of each act answer
 abbrev pub answered_by : List Act → List (List ℕ)
 answered_by acts = map (map (λ (c : Cqe). c.cid)) (posts drive [] acts)
 
--- notices no longer
+-- disables notices
 abbrev pub unset_notices : ℕ → Act
 unset_notices cid = act_on 0 0x09 cid 0x0b 0x07ffffff 0 0 []
 
@@ -68,7 +68,7 @@ refused_read : answered_by (set_notices 1 ∷ event_request 6 ∷ event_request 
 unfolding io_command admin_command deeds pointer_since state_of window_of block_of attributes_of counted closed_zones had_excursion cleared waited changed_zone changed enabled masked pending waiting status evicted zone_deed fires answer answered_back answered acts_on entries_on dwords_of posted reply_bytes
 refused_read = refl
 
--- each zone once, rising; excursions that were refused are none
+-- each zone once, rising; refused excursions are left out
 abbrev pub page_of_two : List ℕ
 page_of_two = 2 ∷ 0 ∷ 0 ∷ 0 ∷ 0 ∷ 0 ∷ 0 ∷ 0 ∷ 64 ∷ 0 ∷ 0 ∷ 0 ∷ 0 ∷ 0 ∷ 0 ∷ 0 ∷ 192 ∷ 0 ∷ 0 ∷ 0 ∷ 0 ∷ 0 ∷ 0 ∷ 0 ∷ []
 
@@ -76,27 +76,27 @@ retained-page : map (take 24) (reads drive (answered drive (excursion 1 192 4 �
 unfolding io_command admin_command deeds pointer_since state_of window_of block_of attributes_of counted closed_zones had_excursion cleared waited changed_zone changed enabled masked pending waiting status evicted zone_deed fires answer answered_back answered acts_on entries_on dwords_of posted reply_bytes
 retained-page = refl
 
--- an excursion while notices are not enabled tells nobody, also later
+-- an excursion while notices are disabled is never reported, not even later
 not_enabled : answered_by (excursion 1 64 4 ∷ set_notices 2 ∷ event_request 6 ∷ []) ≡ (1 ∷ []) ∷ (2 ∷ []) ∷ [] ∷ []
 unfolding io_command admin_command deeds pointer_since state_of window_of block_of attributes_of counted closed_zones had_excursion cleared waited changed_zone changed enabled masked pending waiting status evicted zone_deed fires answer answered_back answered acts_on entries_on dwords_of posted reply_bytes
 not_enabled = refl
 
--- one that was pending is told though they no longer are, and once
+-- a pending event is reported once, even though notices are disabled by then
 enabled_then : answered_by (set_notices 1 ∷ excursion 2 64 4 ∷ unset_notices 3 ∷ event_request 6 ∷ event_request 7 ∷ excursion 4 128 4 ∷ []) ≡ (1 ∷ []) ∷ (2 ∷ []) ∷ (3 ∷ []) ∷ (6 ∷ []) ∷ [] ∷ (4 ∷ []) ∷ []
 unfolding io_command admin_command deeds pointer_since state_of window_of block_of attributes_of counted closed_zones had_excursion cleared waited changed_zone changed enabled masked pending waiting status evicted zone_deed fires answer answered_back answered acts_on entries_on dwords_of posted reply_bytes
 enabled_then = refl
 
--- one that was read is not told
+-- an excursion that was read from the log isn't reported
 cleared_event : answered_by (set_notices 1 ∷ excursion 2 64 4 ∷ read_changed 3 ∷ event_request 6 ∷ []) ≡ (1 ∷ []) ∷ (2 ∷ []) ∷ (3 ∷ []) ∷ [] ∷ []
 unfolding io_command admin_command deeds pointer_since state_of window_of block_of attributes_of counted closed_zones had_excursion cleared waited changed_zone changed enabled masked pending waiting status evicted zone_deed fires answer answered_back answered acts_on entries_on dwords_of posted reply_bytes
 cleared_event = refl
 
--- nor is one that was refused
+-- nor is a refused excursion
 refused_excursion : answered_by (set_notices 1 ∷ event_request 6 ∷ excursion 2 64 1 ∷ excursion 3 64 4 ∷ []) ≡ (1 ∷ []) ∷ [] ∷ (2 ∷ []) ∷ (3 ∷ 6 ∷ []) ∷ []
 unfolding io_command admin_command deeds pointer_since state_of window_of block_of attributes_of counted closed_zones had_excursion cleared waited changed_zone changed enabled masked pending waiting status evicted zone_deed fires answer answered_back answered acts_on entries_on dwords_of posted reply_bytes
 refused_excursion = refl
 
--- the feature as it was last set
+-- the feature's last setting
 abbrev pub get_notices : Act
 get_notices = act_on 0 0x0a 1 0x0b 0 0 0 []
 
@@ -104,8 +104,8 @@ feature-results : map (map (λ (c : Cqe). c.dw0)) (posts drive [] (get_notices �
 unfolding io_command admin_command deeds pointer_since state_of window_of block_of attributes_of counted closed_zones had_excursion cleared waited changed_zone changed enabled masked pending waiting status evicted zone_deed fires answer answered_back answered acts_on entries_on dwords_of posted reply_bytes
 feature-results = refl
 
--- In a ring of two entries: an event's entry is one of queue 0, which has had as many acts, and turns the phase of the
--- entries after it; queue 1 counts for itself.
+-- In a ring of two entries: an event's entry counts for queue 0 but not as an act, and turns the phase of the entries after it; queue 1
+-- counts for itself.
 abbrev pub two_queues : List Act
 two_queues = set_notices 1 ∷ event_request 6 ∷ add 64 1 ∷ excursion 2 64 4 ∷ set_notices 3 ∷ add 64 1 ∷ add 128 1 ∷ []
 

@@ -1,5 +1,5 @@
--- A small drive and the acts of the worked examples: 4 zones of 64 blocks, of which 48 can be written; at most 3 active
--- and 2 opened; one random write area of 8 blocks, in granules of 4.
+-- A small drive and the acts of the worked examples: 4 zones of 64 blocks, of which 48 can be written; at most 3 active and 2 open zones;
+-- one random write area of 8 blocks, in granules of 4.
 use Rattle.std.proofs.Common.{ℕ, ◌+◌, ◌-◌, ◌*◌, ◌/◌, List, [], ◌∷◌, ◌++◌, map, take, drop}
 use Rattle.std.specs.Prelude.{replicate}
 use Rattle.std.specs.List.{range_with_len}
@@ -18,7 +18,7 @@ use Rattle.zone_model.specs.Replies.{reply_bytes}
 abbrev pub drive : GeometryFields
 drive = record { block_exp = 9; mdts = 0; zasl = 0; flags = 0; zones = 4; zone_size = 64; capacity = 48; active_limit = 3; open_limit = 2; windows = 1; granule = 4; window = 8; queues = 2; depth = 64 }
 
--- an act of namespace 1, by its queue, opcode, command number, and dwords 10 to 13
+-- an act on namespace 1, by its queue, opcode, command identifier, and dwords 10 to 13
 abbrev pub act_on : ℕ → ℕ → ℕ → ℕ → ℕ → ℕ → ℕ → List ℕ → Act
 act_on queue opcode cid dw10 dw11 dw12 dw13 payload = record {
   queue = queue;
@@ -62,7 +62,7 @@ statuses h = map (λ p. p.status) h
 abbrev pub states : List Place → List State
 states h = map (λ z. state drive h z) (range_with_len 0 4)
 
--- the entries that acts post, one after the other
+-- the entries that acts post, one after another
 abbrev pub posts : GeometryFields → List Place → List Act → List (List Cqe)
 posts g h [] = []
 posts g h (a ∷ acts) = posted g h a ∷ posts g (and_then g h a) acts
@@ -93,11 +93,11 @@ narrow = record drive { mdts = 2; zasl = 1 }
 abbrev pub plain : GeometryFields
 plain = record drive { windows = 0; granule = 0; window = 0 }
 
--- the same act, of another namespace
+-- the same act on another namespace
 abbrev pub of_namespace : ℕ → Act → Act
 of_namespace nsid a = record a { sqe = record { bytes = take 4 a.sqe.bytes ++ (little_bytes 4 nsid ++ drop 8 a.sqe.bytes) } }
 
--- blocks that all hold 11h
+-- a Write of blocks that all hold 11h
 abbrev pub put : ℕ → ℕ → Act
 put slba blocks = write slba blocks (filled blocks 0x11)
 
@@ -113,26 +113,26 @@ finish slba = send slba 0x002
 abbrev pub reset : ℕ → Act
 reset slba = send slba 0x004
 
--- of all zones, by an action's code; the block named is past the namespace
+-- a Send to all zones, by its action code; the block named is past the namespace
 abbrev pub send_all : ℕ → Act
 send_all code = send 999 (0x100 + code)
 
--- a report: its first block, its bytes, a filter, and 1 for a partial one
+-- a report, by its first block, number of bytes, filter, and 1 if partial
 abbrev pub report_from : ℕ → ℕ → ℕ → ℕ → Act
 report_from slba bytes filter partial = act_on 1 0x7a 1 slba 0 (bytes / 4 - 1) (filter * 256 + partial * 65536) []
 
 abbrev pub identify : ℕ → ℕ → Act
 identify cns csi = act_on 0 0x06 1 cns (csi * 16777216) 0 0 []
 
--- so many dwords of a log page from an offset on
+-- a read of a log page, by the page, the number of dwords and the offset
 abbrev pub read_log : ℕ → ℕ → ℕ → Act
 read_log page dwords offset = act_on 0 0x02 1 (page + (dwords - 1) * 65536) 0 offset 0 []
 
--- the status of each act after the same history
+-- the status of each act, each after the same history
 abbrev pub answers : GeometryFields → List Place → List Act → List Status
 answers g h acts = map (status g h) acts
 
--- zones 0 and 1 were opened, and zone 2, which was written before, closed for the second
+-- zones 0 and 1 are opened, and zone 2, which was written before, was closed for the second
 abbrev pub crowded : GeometryFields → List Place
 crowded g = answered g (put 128 1 ∷ open_zone 0 ∷ open_zone 64 ∷ [])
 

@@ -10,7 +10,7 @@ use Rattle.zone_model.specs.Places.{Place, command_of}
 use Rattle.zone_model.specs.Answers.{all_rows, table_of, status}
 use Rattle.zone_model.specs.Laws.{FirstHolds}
 
--- one more row, which doesn't hold, in front
+-- with one more row in front, which doesn't hold
 before_first : (r : Row Status) (rs : List (Row Status)) (code : Status) → r.holds ≡ false → FirstHolds rs code → FirstHolds (r ∷ rs) code
 before_first r rs code fails first = record {
   earlier = r ∷ first.earlier;

@@ -1,4 +1,4 @@
--- The rows of a command that no zone decides, by their names.
+-- The rows of a command that don't depend on any zone, by their names.
 use Rattle.std.proofs.Common.{◌≡◌, ℕ, ◌+◌, ◌<◌, ◌≤◌, Bool, false, None}
 use Rattle.std.specs.Prelude.{◌&&◌, ◌||◌, ◌==◌, not, nat_le}
 use Rattle.std.proofs.lemmas.Bool.{ltb-false, leb-false}
@@ -25,7 +25,7 @@ append_front-within g nsid zslba blocks e = let (_, (_, (beyond, _))) = none_hol
 pub excursion_front-within : (g : GeometryFields) (nsid slba kind : ℕ) → first_holding (excursion_front g nsid slba kind) ≡ None → slba < all_blocks g
 excursion_front-within g nsid slba kind e = let (_, (_, (beyond, _))) = none_holds (excursion_front g nsid slba kind) e in leb-false _ _ beyond
 
--- what a Send that no row of its front refuses is
+-- a Send that no row of its front refuses
 pub record PassesSend (g : GeometryFields) (slba act : ℕ) (all option : Bool) : Type 0 where
   pub not_for_all : (all && ((act == commit_code) || ((act == open_code) && option))) ≡ false
   pub has_block : (not all && nat_le (all_blocks g) slba) ≡ false

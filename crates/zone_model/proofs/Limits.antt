@@ -40,7 +40,7 @@ use Rattle.zone_model.proofs.Deeds.{deeds-done, done_by, deed-refused, deed-succ
 
 -- ---- limits
 
--- one more where it is needed, if one is left
+-- a count that grows by at most one, where one is needed, stays within its limit if one is left
 more_within : (limit old new : ℕ) (needed : Bool) → (needed && at_limit limit old) ≡ false → IsWithin limit old → new ≤ old + one needed → IsWithin limit new
 more_within limit old new false left was le some = let within = was some in omega arith
 more_within limit old new true left was le some = by_case (and_cases (not (limit == 0)) (nat_le limit old) left)
@@ -53,7 +53,7 @@ more_windows : (limit old new : ℕ) (needed : Bool) → (needed && nat_le limit
 more_windows limit old new false left was le = omega arith
 more_windows limit old new true left was le = let below = leb-false limit old left in omega arith
 
--- so many more as there is room for
+-- a count that grows by at most `more` stays within its limit if there is room for them
 all_within : (limit old more new : ℕ) → (not (limit == 0) && nat_lt limit (old + more)) ≡ false → new ≤ old + more → IsWithin limit new
 all_within limit old more new room le some = by_case (and_cases (not (limit == 0)) (nat_lt limit (old + more)) room)
   where
@@ -92,7 +92,7 @@ zone-takes g h a z is before = by_deed (zone_deed g h a z) refl
 
 -- ---- an act with an aim
 
--- the counts after they are at most those before and what is needed
+-- the new counts are at most the old ones and what is needed
 pub record Grows (old : Limits) (need : Need) (new : Limits) : Type 0 where
   pub active : new.active ≤ old.active + one need.active
   pub opened : new.opened ≤ old.opened + one need.opened
@@ -128,7 +128,7 @@ none_left true false o e none = refl
 none_left true true None e none = e
 none_left true true (Some y) e none = absurd (cc none)
 
--- where a row that would make another zone give way passes, and none does, there is room
+-- if a row that would make another zone give way passes, and none gives way, there is room
 open_left : (g : GeometryFields) (h : List Place) (a : Act) (aim : Aim) → aim_of g (command_of a) ≡ Some aim → Passes g h (table_by g h (command_of a) (Some aim)) → evicted g h a ≡ None
     → evicts g (counts g h) (need_for aim.deed (zone g h aim.zone)) ≡ false
 unfolding evicted
@@ -188,7 +188,7 @@ aim-within g h a aim zones is ok passes was =
 
 -- ---- an act that goes to all zones, or to none
 
--- an Open
+-- the deed is an Open
 abbrev opens_all : Option Deed → Bool
 opens_all (Some (deed.Open window)) = true
 opens_all _ = false
@@ -227,7 +227,7 @@ room_for_all g h (cmd.Send nsid slba act true option) front own = by_deed (sent_
 room_for_all g h (cmd.Send nsid slba act false option) front own = record { windowless = refl; room = λ e. absurd (cc e) }
 room_for_all g h _ front own = record { windowless = refl; room = λ e. absurd (cc e) }
 
--- a sweep needs no more than open resources, for Closed zones
+-- a sweep needs only open resources, and only for Closed zones
 pub record NeedsOpened (need : Need) (closed : Bool) : Type 0 where
   pub active : need.active ≡ false
   pub opened : one need.opened ≤ one closed

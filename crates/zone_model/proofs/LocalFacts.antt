@@ -1,4 +1,4 @@
--- What an act's own zones decide alone.
+-- What an act's own zones alone decide.
 use Rattle.std.proofs.Common.{◌≡◌, ℕ, zero, suc, ◌+◌, ◌-◌, ◌<◌, ◌≤◌, Bool, true, false, cond, List, [], ◌∷◌, ◌++◌, Option, Some, None, refl, ap, ◌∙◌, arith}
 use Rattle.std.specs.Prelude.{◌&&◌, ◌||◌, not, is_none, is_some, unwrap_or, nat_le, nat_lt}
 use Rattle.std.specs.List.{list_any, range_with_len}
@@ -25,7 +25,7 @@ use Rattle.zone_model.proofs.Sends.{HasBlocks, some_blocks}
 
 -- ---- where no zone gives way
 
--- The row of too many open zones decides nothing, where a row before it holds or where it is not at its limit.
+-- The row of too many open zones makes no difference if a row before it holds or the limit isn't reached.
 same_first : (rows : List (Row Status)) (r : Row Status) (rest : List (Row Status)) (b e f : Bool) (c : Status) → (is_none (first_holding (rows ++ r ∷ [])) && b) ≡ false
     → first_holding (rows ++ r ∷ when (b && not e) c ∷ rest) ≡ first_holding (rows ++ r ∷ when (b && not f) c ∷ rest)
 same_first [] r rest b e f c none = by_row r.holds b none

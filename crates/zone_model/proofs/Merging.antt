@@ -1,4 +1,4 @@
--- Acts in an order of their queues.
+-- Acts merged by an order of their queues.
 use Rattle.std.proofs.Common.{◌≡◌, ℕ, suc, ◌+◌, Bool, true, false, cond, List, [], ◌∷◌, length, Option, Some, None, refl, sym, ap, ◌∙◌, arith}
 use Rattle.std.specs.Prelude.{◌==◌, count_by}
 use Rattle.std.proofs.lemmas.Bool.{eqb-true, eq-eqb}
@@ -7,7 +7,7 @@ use Rattle.drive_rules.specs.Shown.{one}
 use Rattle.zone_model.specs.declared.act.Act.{Act}
 use Rattle.zone_model.specs.Sessions.{is_of, next_of, rest_of, next_then, merged, IsOrder, acts_of, IsMerge}
 
--- one element more, where it passes
+-- one more element, if it passes
 abbrev pub with_one : {A : Type 0} → Bool → A → List A → List A
 with_one b a xs = cond b (a ∷ xs) xs
 
@@ -16,14 +16,14 @@ count-cons p x xs = sum_by-cons (λ y. one (p y)) x xs
 
 -- ---- the next act of a queue
 
--- the acts are this one, of the queue, and the rest
+-- the acts are this one, which is of the queue, and the rest
 pub record IsNext (queue : ℕ) (acts : List Act) (a : Act) : Type 0 where
   pub of_queue : is_of queue a ≡ true
   pub length : length acts ≡ suc (length (rest_of queue acts))
   pub count : (q : ℕ) → count_by (is_of q) acts ≡ one (is_of q a) + count_by (is_of q) (rest_of queue acts)
   pub acts_of : (q : ℕ) → acts_of q acts ≡ with_one (is_of q a) a (acts_of q (rest_of queue acts))
 
--- two acts of which one is of a queue that the other isn't of are not both of any other
+-- two acts, of which one is of the queue and the other isn't, are not both of any other queue
 with_both : (queue q : ℕ) (a b : Act) (xs : List Act) → is_of queue a ≡ true → is_of queue b ≡ false
     → with_one (is_of q b) b (with_one (is_of q a) a xs) ≡ with_one (is_of q a) a (with_one (is_of q b) b xs)
 with_both queue q a b xs mine other = by_both (is_of q a) (is_of q b) refl refl

@@ -1,4 +1,4 @@
--- What the zones use after an act, all together.
+-- The resources that the zones use in total after an act.
 use Rattle.std.proofs.Common.{◌≡◌, ◌≢◌, ℕ, ◌<◌, true, List, Option, Some, None, refl, sym, ap, ◌∙◌}
 use Rattle.std.proofs.lemmas.Bool.{eq-eqb, ne_eqb}
 use Rattle.zns_types.specs.declared.fields.GeometryFields.{GeometryFields}
@@ -28,7 +28,7 @@ uses-idle g h a z none = ap (λ (ds : List Done). use_of (sight_of g ds)) (deeds
 pub uses-closed : (g : GeometryFields) (h : List Place) (a : Act) (z : ℕ) → zone_deed g h a z ≡ Some deed.Close → is_implicitly_opened (state g h z) ≡ true → uses g (and_then g h a) z ≡ closed_use (uses g h z)
 uses-closed g h a z close implicit = ap (λ (ds : List Done). use_of (sight_of g ds)) (deeds-done g h a z deed.Close close) ∙ closed g (deeds h z) (done_by a deed.Close) refl implicit
 
--- An act that does nothing to any zone leaves the counts.
+-- An act that does nothing to any zone leaves the counts unchanged.
 pub idle_is_uncounted : (g : GeometryFields) (h : List Place) (a : Act) → ((z : ℕ) → zone_deed g h a z ≡ None) → counts g (and_then g h a) ≡ counts g h
 idle_is_uncounted g h a none = counted-same g (uses g h) (uses g (and_then g h a)) (λ z lt. uses-idle g h a z (none z))
 
@@ -48,7 +48,7 @@ deed-aim g h a aim is ok = deed-success g h a aim.zone ok ∙ rw is (rw (eq-eqb 
 pub deed-evicted : (g : GeometryFields) (h : List Place) (a : Act) (aim : Aim) (z : ℕ) → aim_of g (command_of a) ≡ Some aim → is_success (status g h a) ≡ true → evicted g h a ≡ Some z → zone_deed g h a z ≡ Some deed.Close
 deed-evicted g h a aim z is ok e = deed-other g h a aim z is ok ((aim-gives_way g h a aim z is e).other aim.zone refl) ∙ rw (e, eq-eqb z z refl) refl
 
--- An act that does a deed to one zone counts what that zone uses afterwards, and first closes the zone that gives way.
+-- An act that does a deed to one zone first closes the zone that gives way, and then counts what its own zone uses.
 pub one_is_counted : (g : GeometryFields) (h : List Place) (a : Act) (aim : Aim) → aim_of g (command_of a) ≡ Some aim → aim.zone < g.zones → is_success (status g h a) ≡ true
     → counts g (and_then g h a) ≡ recounted (uses g h aim.zone) (uses g (and_then g h a) aim.zone) (after_close g h (evicted g h a) (counts g h))
 one_is_counted g h a aim is lt ok = by_evicted (evicted g h a) refl

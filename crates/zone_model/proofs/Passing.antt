@@ -27,7 +27,7 @@ use Rattle.zone_model.specs.Answers.{own_rows, table_by, table_of, evictable, al
 abbrev pub refuses : List (Row Status) → Bool
 refuses rs = list_all (λ r. not (is_success r.answer)) rs
 
--- so success comes only where no row holds
+-- so a success means that no row holds
 pub success-none : (rs : List (Row Status)) → refuses rs ≡ true → is_success (first_refusal rs) ≡ true → first_holding rs ≡ None
 success-none [] codes e = refl
 success-none (r ∷ rs) codes e =
@@ -39,7 +39,7 @@ success-none (r ∷ rs) codes e =
     by_first true code rest refusal k e = absurd (cc (refusal, e))
     by_first false code rest refusal k e = k e
 
--- where no row of two tables holds, none of either does
+-- if no row of two tables together holds, none of either does
 pub none-parts : (rs more : List (Row Status)) → first_holding (rs ++ more) ≡ None → (first_holding rs ≡ None) × (first_holding more ≡ None)
 none-parts [] more e = (refl, e)
 none-parts (r ∷ rs) more e = by_first r.holds e (none-parts rs more)
@@ -94,14 +94,14 @@ pub status-rows : (g : GeometryFields) (h : List Place) (a : Act) → status g h
 unfolding status
 status-rows g h a = refl
 
--- No row of the table of an act that succeeds holds.
+-- If an act succeeds, no row of its table holds.
 pub success-passes : (g : GeometryFields) (h : List Place) (a : Act) → is_success (status g h a) ≡ true → Passes g h (table_of g h (command_of a))
 unfolding status
 success-passes g h a ok =
     let codes = table_by-refuses g h (command_of a) (aim_of g (command_of a)) in
     passes g h (table_of g h (command_of a)) codes.0 codes.1 ok
 
--- so none of the zone that it goes to
+-- nor does any row of the zone that it goes to
 pub aim-passes : (g : GeometryFields) (h : List Place) (a : Act) (aim : Aim) → is_success (status g h a) ≡ true → aim_of g (command_of a) ≡ Some aim → Passes g h (table_by g h (command_of a) (Some aim))
 aim-passes g h a aim ok e = rw e at (success-passes g h a ok)
 
@@ -110,6 +110,6 @@ pub table_by-front : (g : GeometryFields) (h : List Place) (k : Cmd) (aim : Opti
 table_by-front g h k None = refl
 table_by-front g h k (Some aim) = refl
 
--- and none that no zone decides
+-- nor does any row that doesn't depend on a zone
 pub success-front : (g : GeometryFields) (h : List Place) (a : Act) → is_success (status g h a) ≡ true → first_holding (front_rows g (command_of a)) ≡ None
 success-front g h a ok = rw table_by-front at (success-passes g h a ok).front

@@ -28,7 +28,7 @@ sum_of-le f g a (suc n) e =
     let here = e a (omega arith) (omega arith) in
     omega (arith, step f a n, step g a n, rest, here)
 
--- where a function is at most another but at one number, so are the sums but for what they have there
+-- if one function is at most another except at one number, so is its sum, apart from the values there
 sum_of-le_at : (f g : ℕ → ℕ) (z a n : ℕ) → a ≤ z → z < a + n → ((x : ℕ) → x ≢ z → f x ≤ g x) → sum_of f a n + g z ≤ sum_of g a n + f z
 sum_of-le_at f g z a zero low high e = absurd (omega arith)
 sum_of-le_at f g z a (suc n) low high e = elim (cases_eq a z) [
@@ -59,7 +59,7 @@ count-same f g n e =
     let ge = count-le g f n (λ x lt. let same = ap one (e x lt) in omega arith) in
     omega arith
 
--- what passes one test passes one of two
+-- if what passes one test passes one of two others, its count is at most their sum
 pub count-le_both : (f g k : ℕ → Bool) (n : ℕ) → ((x : ℕ) → x < n → one (f x) ≤ one (g x) + one (k x)) → count_below f n ≤ count_below g n + count_below k n
 count-le_both f g k n e =
     let both = sum_of-le (λ x. one (f x)) (λ x. one (g x) + one (k x)) 0 n (λ x low high. e x (omega arith)) in
@@ -77,19 +77,19 @@ one-le : (b : Bool) → one b ≤ 1
 one-le true = omega arith
 one-le false = omega arith
 
--- a count has one at each number that passes
+-- a count is at least 1 if some number passes
 pub count-used : (f : ℕ → Bool) (z n : ℕ) → z < n → f z ≡ true → 1 ≤ count_below f n
 count-used f z n lt on =
     let le = sum_of-le_at (λ x. 0) (λ x. one (f x)) z 0 n (omega arith) (omega arith) (λ x other. omega arith) in
     omega (arith, le, ap one on)
 
--- and leaves one out at each number that doesn't
+-- and less than n if some number doesn't
 pub count-unused : (f : ℕ → Bool) (z n : ℕ) → z < n → f z ≡ false → count_below f n < n
 count-unused f z n lt off =
     let le = sum_of-le_at (λ x. one (f x)) (λ x. 1) z 0 n (omega arith) (omega arith) (λ x other. one-le (f x)) in
     omega (arith, le, sum_of-same 1 0 n, ap one off)
 
--- Where what passes one test passes another, but at one number, at most one more passes, and none where d is 0.
+-- If what passes one test passes another, except at one number, at most one more passes, and none if d is 0.
 pub count-le_but : (f g : ℕ → Bool) (z d n : ℕ) → ((x : ℕ) → x ≢ z → one (f x) ≤ one (g x)) → one (f z) ≤ one (g z) + d → count_below f n ≤ count_below g n + d
 count-le_but f g z d n e here = elim (cases_lt z n) [
   | inl lt ↦ let le = sum_of-le_at (λ x. one (f x)) (λ x. one (g x)) z 0 n (omega arith) (omega arith) e in omega arith
@@ -109,7 +109,7 @@ count-set f g z n lt e =
     moved old new false true e some = omega arith
     moved old new false false e some = omega arith
 
--- Where one number passed that doesn't now, and only one other may pass now, no more pass.
+-- If one number that passed doesn't now, and only one other may pass now, no more pass.
 pub count-le_swap : (f g : ℕ → Bool) (y z n : ℕ) → y < n → g y ≡ true → f y ≡ false → ((x : ℕ) → x ≢ z → one (f x) ≤ one (g x)) → count_below f n ≤ count_below g n
 count-le_swap f g y z n lt was gone e =
     let le = count-le_but f but z 1 n (λ x other. off_z x other (cases_eq x y)) (omega (arith, one-le (f z))) in

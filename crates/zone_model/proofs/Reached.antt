@@ -1,4 +1,4 @@
--- Nothing is done to a zone out of an act's reach, unless it gives way to another.
+-- An act does nothing to a zone outside its reach, unless the zone gives way to another.
 use Rattle.std.proofs.Common.{◌≡◌, ℕ, zero, suc, ◌+◌, ◌*◌, ◌-◌, ◌<◌, ◌≤◌, Bool, true, false, cond, List, Option, Some, None, get_or, refl, ap, ◌∙◌, arith, inl, inr}
 use Rattle.std.specs.Prelude.{◌==◌}
 use Rattle.std.specs.List.{list_any, range_with_len}
@@ -47,7 +47,7 @@ some_size : (zones size n : ℕ) → 1 ≤ n → n ≤ zones * size → 0 < size
 some_size zones zero n some le = absurd (omega arith)
 some_size zones (suc size) n some le = omega arith
 
--- the first block's zone is among those of blocks that the namespace has
+-- the zone of the first block is among the zones of blocks that the namespace has
 zones_with-has : (g : GeometryFields) (slba blocks : ℕ) → 1 ≤ blocks → slba + blocks ≤ all_blocks g → is_among (zone_of g slba) (zones_with g slba blocks) ≡ true
 zones_with-has g slba blocks some within =
     let size = some_size g.zones g.zone_size (slba + blocks) (omega arith) within in
@@ -57,7 +57,7 @@ zones_with-has g slba blocks some within =
 zone_with-has : (g : GeometryFields) (lba : ℕ) → lba < all_blocks g → is_among (zone_of g lba) (zone_with g lba) ≡ true
 zone_with-has g lba within = rw (lt-ltb lba (all_blocks g) within, eq-eqb (zone_of g lba) (zone_of g lba) refl) refl
 
--- a zone that isn't among the zones isn't the one that is
+-- a zone outside the list differs from one in the list
 other_zone : {A : Type 0} (y z : ℕ) (zs : List ℕ) (a : A) → is_among y zs ≡ true → is_among z zs ≡ false → cond (y == z) (Some a) None ≡ None
 other_zone {A} y z zs a here away = by_case (y == z) refl
   where
@@ -84,7 +84,7 @@ not_reached g h (cmd.Excursion nsid slba kind) z front has lt away =
     other_zone (zone_of g slba) z (zone_with g slba) (deed.Excursion kind) (zone_with-has g slba (excursion_front-within g nsid slba kind front)) away
 not_reached g h _ z front has lt away = refl
 
--- Nothing is done to a zone out of an act's reach that doesn't give way.
+-- An act does nothing to a zone outside its reach that doesn't give way.
 pub untouched_is_idle : (g : GeometryFields) (h : List Place) (a : Act) (z : ℕ) → z < g.zones → is_reached g a z ≡ false → is_zone z (evicted g h a) ≡ false → zone_deed g h a z ≡ None
 untouched_is_idle g h a z lt away stays = elim (cases_Bool (is_success (status g h a))) [
   | inl ok ↦

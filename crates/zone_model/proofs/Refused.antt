@@ -1,4 +1,4 @@
--- A zone that nothing is done to stays as it was, and after a refused act the whole drive does.
+-- A zone to which nothing is done stays as it was, and so does the whole drive after a refused act.
 use Rattle.std.proofs.Common.{◌≡◌, ℕ, Bool, false, List, ◌∷◌, None, refl, ap, ◌∙◌, arith}
 use Rattle.std.specs.Prelude.{◌&&◌, not, drop}
 use Rattle.std.specs.List.{list_any}
@@ -34,13 +34,13 @@ unchanged g old new z same = record {
 pub idle-unchanged : (g : GeometryFields) (h : List Place) (a : Act) (z : ℕ) → zone_deed g h a z ≡ None → IsUnchanged g h (and_then g h a) z
 idle-unchanged g h a z none = unchanged g h (and_then g h a) z (deeds-idle g h a z none)
 
--- zones with the same deeds use as much
+-- zones with the same deeds use the same resources
 pub counts-same : (g : GeometryFields) (old new : List Place) → ((z : ℕ) → deeds new z ≡ deeds old z) → counts g new ≡ counts g old
 counts-same g old new same = ap (λ (of : ℕ → List Done). counted g (λ z. use_of (sight_of g (of z)))) (fun_ext same)
 
 -- ---- notices
 
--- a place that took nothing and answered no event request
+-- the act failed and answered no event request
 pub record IsIdle (p : Place) : Type 0 where
   pub refused : took p ≡ false
   pub fired : p.fired ≡ None

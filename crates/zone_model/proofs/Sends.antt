@@ -57,7 +57,7 @@ some_blocks a = of_either (a.queue == 0) (admin_command a.sqe.bytes) (io_command
 
 -- ---- the deeds of a Send
 
--- what holds of each deed that a Send can ask for holds of the one that it asks for
+-- what holds of each deed that a Send can ask for holds of the one that this Send asks for
 pub record HoldsOfSent (P : Deed → Type 0) (code : ℕ) (option : Bool) (last : ℕ) : Type 0 where
   pub close : P deed.Close
   pub finish : P deed.Finish

@@ -15,7 +15,7 @@ use Rattle.zone_model.proofs.ExampleDrive.{drive, act_on, filled, set_notices, e
 
 -- ---- orders
 
--- Identify on the admin queue and Flush on two others, told apart by their numbers
+-- Identify on the admin queue and Flush on two others, with identifiers that tell them apart
 abbrev pub three_queues : Recorded
 three_queues = record { geometry = record drive { queues = 3 }; acts = act_on 1 0x00 10 0 0 0 0 [] ∷ act_on 2 0x00 20 0 0 0 0 [] ∷ act_on 1 0x00 11 0 0 0 0 [] ∷ act_on 0 0x06 30 0 0 0 0 [] ∷ act_on 2 0x00 21 0 0 0 0 [] ∷ [] }
 
@@ -50,7 +50,7 @@ one_write-length = refl
 
 -- ---- results
 
--- one order entry, one completion entry, no byte read, and the first zone
+-- one queue in the order, one completion entry, no bytes read, and the first zone
 one_write-facts :
     (take 100 (result_of one_write (1 ∷ [])) ≡ (0x5a ∷ 0x4e ∷ 0x53 ∷ 0x52 ∷ 0x30 ∷ 0x30 ∷ 0x30 ∷ 0x31 ∷ 1 ∷ 0 ∷ 0 ∷ 0 ∷ 1 ∷ 0 ∷ 1 ∷ 0 ∷ []) ++ (replicate 8 0 ++ ((1 ∷ 0 ∷ 1 ∷ 0 ∷ 1 ∷ 0 ∷ 1 ∷ 0 ∷ 0 ∷ 0 ∷ 0 ∷ 0 ∷ []) ++ ((2 ∷ 0x20 ∷ replicate 6 0) ++ ((48 ∷ replicate 15 0) ++ (1 ∷ replicate 39 0))))))
     × (length (result_of one_write (1 ∷ [])) ≡ 4388)

@@ -1,4 +1,4 @@
--- A deed to every zone whose state takes it: the zone admits it.
+-- A deed to every zone whose state takes it is admitted by each of these zones.
 use Rattle.std.proofs.Common.{◌≡◌, ℕ, Bool, true, false, Some, None, refl}
 use Rattle.std.specs.Prelude.{◌&&◌, ◌||◌, ◌==◌, is_ok}
 use Rattle.std.proofs.lemmas.Bool.{or_parts}

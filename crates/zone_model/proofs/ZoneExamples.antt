@@ -1,5 +1,5 @@
--- Worked examples on writes and commits, and on the states, areas, attributes and pointers of zones, computed. The newest
--- status stands first.
+-- Worked examples on writes and commits, and on the states, areas, attributes and pointers of zones, computed. The newest status comes
+-- first.
 use Rattle.std.proofs.Common.{◌≡◌, ℕ, Bool, true, false, Some, None, List, [], ◌∷◌, ◌++◌, map, refl}
 use Rattle.drive_rules.specs.declared.deed.Deed.TheVariants as deed
 use Rattle.zns_types.specs.declared.state.State.{State}
@@ -26,7 +26,7 @@ away_from_pointer-facts :
 unfolding io_command admin_command deeds pointer_since state_of window_of block_of attributes_of counted closed_zones had_excursion cleared waited enabled masked pending waiting status evicted zone_deed fires answer answered_back answered
 away_from_pointer-facts = (refl, refl)
 
--- blocks of the window are written again, and others never
+-- blocks of the window can be written again, and others never
 abbrev pub written_again : List Place
 written_again = answered drive (open_with_window 0 ∷ write 4 2 (filled 2 0x11) ∷ write 4 2 (filled 2 0x22) ∷ [])
 
@@ -66,7 +66,7 @@ past_capacity-statuses : statuses past_capacity ≡ zone_boundary_error ∷ succ
 unfolding io_command admin_command deeds pointer_since state_of window_of block_of attributes_of counted closed_zones had_excursion cleared waited enabled masked pending waiting status evicted zone_deed fires answer answered_back answered
 past_capacity-statuses = refl
 
--- committed to the capacity the zone is Full, and its window is there for another zone
+-- a zone that is committed to its capacity is Full, and its window is free for another zone
 abbrev pub to_capacity : List Place
 to_capacity = answered drive (open_with_window 0 ∷ commit_to 7 ∷ commit_to 15 ∷ commit_to 23 ∷ commit_to 31 ∷ commit_to 39 ∷ write 40 8 (filled 8 0x11) ∷ commit_to 47 ∷ write 40 1 (filled 1 0x11) ∷ open_with_window 64 ∷ [])
 
@@ -102,7 +102,7 @@ no_open_zone-statuses : statuses (answered drive (open_zone 0 ∷ open_zone 64 �
 unfolding io_command admin_command deeds pointer_since state_of window_of block_of attributes_of counted closed_zones had_excursion cleared waited enabled masked pending waiting status evicted zone_deed fires answer answered_back answered
 no_open_zone-statuses = refl
 
--- the third zone that is opened closes the first, and a fourth finds no active resource
+-- opening a third zone closes the first, and a fourth finds no active resource
 abbrev pub four_zones : List Place
 four_zones = answered drive (write 0 1 (filled 1 0x11) ∷ write 64 1 (filled 1 0x11) ∷ write 128 1 (filled 1 0x11) ∷ append 192 1 (filled 1 0x11) ∷ [])
 
@@ -113,12 +113,12 @@ four_zones-facts :
 unfolding io_command admin_command deeds pointer_since state_of window_of block_of attributes_of counted closed_zones had_excursion cleared waited enabled masked pending waiting status evicted zone_deed fires answer answered_back answered
 four_zones-facts = (refl, refl, refl)
 
--- an Append to a zone with a window, and one whose block is no zone's first
+-- an Append to a zone with a window, and one whose block isn't the first of a zone
 bad_appends-statuses : statuses (answered drive (open_with_window 0 ∷ append 0 1 (filled 1 0x11) ∷ append 1 1 (filled 1 0x11) ∷ [])) ≡ invalid_field ∷ invalid_zone_operation ∷ success ∷ []
 unfolding io_command admin_command deeds pointer_since state_of window_of block_of attributes_of counted closed_zones had_excursion cleared waited enabled masked pending waiting status evicted zone_deed fires answer answered_back answered
 bad_appends-statuses = refl
 
--- a reset of all zones begins anew
+-- a reset of all zones starts afresh
 abbrev pub begun_anew : List Place
 begun_anew = answered drive (append 64 2 (filled 2 0x11) ∷ append 64 2 (filled 2 0x22) ∷ reset_all ∷ append 64 3 (filled 3 0x33) ∷ [])
 
@@ -128,7 +128,7 @@ begun_anew-facts :
 unfolding io_command admin_command deeds pointer_since state_of window_of block_of attributes_of counted closed_zones had_excursion cleared waited enabled masked pending waiting status evicted zone_deed fires answer answered_back answered
 begun_anew-facts = (refl, refl)
 
--- an Offline of a zone that isn't Read Only
+-- the Offline action on a zone that isn't Read Only
 offline_refused : statuses (answered drive (send 0 0x005 ∷ [])) ≡ invalid_zone_state_transition ∷ []
 unfolding io_command admin_command deeds pointer_since state_of window_of block_of attributes_of counted closed_zones had_excursion cleared waited enabled masked pending waiting status evicted zone_deed fires answer answered_back answered
 offline_refused = refl
@@ -179,7 +179,7 @@ closed_all-states : states (answered drive (put 0 1 ∷ close_zone 0 ∷ put 64 
 unfolding io_command admin_command deeds pointer_since state_of window_of block_of attributes_of counted closed_zones had_excursion cleared waited enabled masked pending waiting status evicted zone_deed fires answer answered_back answered
 closed_all-states = refl
 
--- the lowest-numbered zone is closed, though another is open for longer; one that was opened explicitly never is
+-- the lowest-numbered zone is closed, even if another has been open for longer; an explicitly opened zone never is
 evicts-facts :
     (states (answered drive (put 128 1 ∷ put 64 1 ∷ put 0 1 ∷ [])) ≡ ImplicitlyOpened ∷ Closed ∷ ImplicitlyOpened ∷ Empty ∷ [])
     × (states (answered drive (open_zone 0 ∷ put 64 1 ∷ put 128 1 ∷ [])) ≡ ExplicitlyOpened ∷ Closed ∷ ImplicitlyOpened ∷ Empty ∷ [])
@@ -205,12 +205,12 @@ evicted_area-facts :
 unfolding io_command admin_command deeds pointer_since state_of window_of block_of attributes_of counted closed_zones had_excursion cleared waited enabled masked pending waiting status evicted zone_deed fires answer answered_back answered
 evicted_area-facts = (refl, refl, refl)
 
--- an Append's blocks stand after those that were there
+-- an Append's blocks come after those that were there
 appended-blocks : map (block drive (answered drive (append 64 2 (filled 2 0x11) ∷ append 64 1 (filled 1 0x22) ∷ [])) 1) (1 ∷ 2 ∷ 3 ∷ []) ≡ Some (filled 1 0x11) ∷ Some (filled 1 0x22) ∷ None ∷ []
 unfolding io_command admin_command deeds pointer_since state_of window_of block_of attributes_of counted closed_zones had_excursion cleared waited enabled masked pending waiting status evicted zone_deed fires answer answered_back answered
 appended-blocks = refl
 
--- An area begins at what was written before. A second Open leaves the pointer, and a reset takes the area.
+-- An area begins after what was written before. A second Open leaves the pointer, and a reset removes the area.
 area-facts :
     (pointer drive (answered drive (put 0 4 ∷ open_with_window 0 ∷ [])) 0 ≡ 4)
     × (pointer drive (answered drive (put 0 4 ∷ open_with_window 0 ∷ put 12 1 ∷ [])) 0 ≡ 8)
@@ -229,7 +229,7 @@ area_reset-facts :
 unfolding io_command admin_command deeds pointer_since state_of window_of block_of attributes_of counted closed_zones had_excursion cleared waited enabled masked pending waiting status evicted zone_deed fires answer answered_back answered
 area_reset-facts = (refl, refl, refl)
 
--- a finish leads to the capacity, also by the controller
+-- a finish moves the pointer to the capacity, also when the controller does it
 area-finished : map (pointer drive (answered drive (open_with_window 0 ∷ finish 0 ∷ finish 64 ∷ []))) (0 ∷ 1 ∷ 2 ∷ []) ≡ 48 ∷ 48 ∷ 0 ∷ []
 unfolding io_command admin_command deeds pointer_since state_of window_of block_of attributes_of counted closed_zones had_excursion cleared waited enabled masked pending waiting status evicted zone_deed fires answer answered_back answered
 area-finished = refl
@@ -247,7 +247,7 @@ attributes-kinds : map attributes_after ((put 0 1 ∷ excursion 1 0 1 ∷ []) �
 unfolding io_command admin_command deeds pointer_since state_of window_of block_of attributes_of counted closed_zones had_excursion cleared waited enabled masked pending waiting status evicted zone_deed fires answer answered_back answered
 attributes-kinds = refl
 
--- a Full zone is recommended for a reset at most, and a Closed one keeps all
+-- the only recommendation that a Full zone keeps is a reset, and a Closed one keeps all
 attributes-facts :
     (map attributes_after ((put 0 1 ∷ excursion 1 0 2 ∷ excursion 1 0 3 ∷ finish 0 ∷ []) ∷ (put 0 1 ∷ excursion 1 0 1 ∷ excursion 1 0 3 ∷ []) ∷ (open_with_window 0 ∷ excursion 1 0 2 ∷ close_zone 0 ∷ []) ∷ []) ≡ 4 ∷ 5 ∷ 10 ∷ [])
     × (map attributes_after ((put 0 1 ∷ excursion 1 0 2 ∷ excursion 1 0 3 ∷ reset 0 ∷ put 0 1 ∷ []) ∷ (put 0 1 ∷ excursion 1 0 1 ∷ excursion 1 0 4 ∷ []) ∷ (open_with_window 0 ∷ excursion 1 0 2 ∷ excursion 1 0 3 ∷ excursion 1 0 4 ∷ []) ∷ (put 0 1 ∷ excursion 1 0 3 ∷ excursion 1 0 5 ∷ []) ∷ []) ≡ 0 ∷ 0 ∷ 0 ∷ 0 ∷ [])
@@ -258,12 +258,12 @@ attributes-facts = (refl, refl)
 abbrev pub shut_four : List Place
 shut_four = answered drive (put 0 2 ∷ excursion 1 0 4 ∷ put 64 2 ∷ finish 64 ∷ put 128 2 ∷ excursion 1 128 5 ∷ put 192 2 ∷ close_zone 192 ∷ [])
 
--- only the pointer of the last means something
+-- only the pointer of the last zone is meaningful
 pointers-shown : map (λ z. (descriptor drive shut_four z).pointer) (0 ∷ 1 ∷ 2 ∷ 3 ∷ []) ≡ 18446744073709551615 ∷ 18446744073709551615 ∷ 18446744073709551615 ∷ 194 ∷ []
 unfolding io_command admin_command deeds pointer_since state_of window_of block_of attributes_of counted closed_zones had_excursion cleared waited enabled masked pending waiting status evicted zone_deed fires answer answered_back answered
 pointers-shown = refl
 
--- all that a Read Only zone can have is committed, and else what lies before the pointer
+-- of a Read Only zone every block below the capacity is committed, and of the others what lies before the pointer
 blocks-committed : map (λ z. map (committed drive shut_four z) (1 ∷ 2 ∷ 47 ∷ 48 ∷ [])) (0 ∷ 1 ∷ 2 ∷ 3 ∷ []) ≡ (true ∷ true ∷ true ∷ false ∷ []) ∷ (true ∷ true ∷ true ∷ false ∷ []) ∷ (true ∷ false ∷ false ∷ false ∷ []) ∷ (true ∷ false ∷ false ∷ false ∷ []) ∷ []
 unfolding io_command admin_command deeds pointer_since state_of window_of block_of attributes_of counted closed_zones had_excursion cleared waited enabled masked pending waiting status evicted zone_deed fires answer answered_back answered
 blocks-committed = refl

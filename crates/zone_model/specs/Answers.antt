@@ -22,14 +22,14 @@ use Rattle.zone_model.specs.Notices.{pending, waiting, fires_by}
 
 -- ---- the status
 
--- the rows of a command that goes to no one zone, after those of its front
+-- the rows, after those of its front, of a command that doesn't go to a single zone
 abbrev pub own_rows : GeometryFields → List Place → Cmd → List (Row Status)
 own_rows g h (cmd.Read nsid slba blocks) = read_rows g (state g h) slba blocks
 own_rows g h (cmd.Send nsid slba act all option) = send_all_rows g (counts g h) (closed_zones g h) all act
 own_rows g h cmd.Event = event_rows (pending h) (waiting h)
 own_rows g h _ = []
 
--- a command's table of refusals, by the zone that it goes to, where it goes to one
+-- a command's table of refusals, by the zone that it goes to, if it goes to one
 abbrev pub table_by : GeometryFields → List Place → Cmd → Option Aim → Table
 table_by g h k None = plain_table g k (own_rows g h k)
 table_by g h k (Some aim) = aim_table g k aim (zone g h aim.zone)
@@ -54,7 +54,7 @@ status g h a = first_refusal (all_rows g h (table_of g h (command_of a)))
 abbrev pub evicted_by : GeometryFields → List Place → Table → Option ℕ
 evicted_by g h t = if wants_room g (counts g h) (judging_rows t) t.need then evictable g h t.target else None
 
--- The zone that is closed for an act, where it needs an open resource at the open limit and no row before refuses it.
+-- The zone that is closed for an act: there is one if the act needs an open resource at the open limit and no earlier row refuses it.
 unfoldable pub evicted : GeometryFields → List Place → Act → Option ℕ
 evicted g h a = evicted_by g h (table_of g h (command_of a))
 
@@ -63,7 +63,7 @@ abbrev pub swept : Option Deed → State → Option Deed
 swept None s = None
 swept (Some d) s = if takes_all d s then Some d else None
 
--- what a command itself does to a zone, by the zone that it goes to, where it goes to one
+-- what a command itself does to a zone, by the zone that it goes to, if it goes to one
 abbrev pub commanded_by : GeometryFields → List Place → Cmd → Option Aim → ℕ → Option Deed
 commanded_by g h k None z = swept (sweep_of k) (state g h z)
 commanded_by g h k (Some aim) z = if aim.zone == z then Some aim.deed else None
@@ -75,7 +75,7 @@ abbrev pub is_zone : ℕ → Option ℕ → Bool
 is_zone z None = false
 is_zone z (Some y) = y == z
 
--- the deed of the command, or else the close of the zone that it evicts
+-- the deed of the command, or else a Close if it evicts the zone
 abbrev pub or_close : Option Deed → Bool → Option Deed
 or_close (Some d) evicts = Some d
 or_close None evicts = if evicts then Some deed.Close else None
@@ -88,7 +88,7 @@ abbrev pub move_of : Option Deed → Option Action
 move_of None = None
 move_of (Some d) = Some (action_of d)
 
--- the action of the zone state machine by which an act moves a zone
+-- the action by which an act moves a zone in the zone state machine
 abbrev pub zone_move : GeometryFields → List Place → Act → ℕ → Option Action
 zone_move g h a z = move_of (zone_deed g h a z)
 
@@ -101,15 +101,15 @@ fires g h a = if is_success (status g h a) then fires_by h (cid_of a.sqe.bytes) 
 unfoldable pub answer : GeometryFields → List Place → Act → Place
 answer g h a = record { act = a; status = status g h a; deed = zone_deed g h a; fired = fires g h a }
 
--- a history and one more act
+-- a history with one more act
 abbrev pub and_then : GeometryFields → List Place → Act → List Place
 and_then g h a = answer g h a ∷ h
 
--- acts from the newest on
+-- the history of acts, given from the newest on
 unfoldable pub answered_back : GeometryFields → List Act → List Place
 answered_back g [] = []
 answered_back g (a ∷ acts) = and_then g (answered_back g acts) a
 
--- What a drive answers to acts, which come in their order; the newest answer comes first.
+-- The answers of a drive to acts, which are given in order; the newest answer comes first.
 unfoldable pub answered : GeometryFields → List Act → List Place
 answered g acts = answered_back g (reverse acts)

@@ -14,7 +14,7 @@ use Rattle.drive_rules.specs.Shown.{one}
 use Rattle.zone_model.specs.Notices.{enabled}
 use Rattle.zone_model.specs.Answers.{status, fires}
 
--- the acts of a queue
+-- the number of acts on a queue
 unfoldable pub acts_on : ℕ → List Place → ℕ
 acts_on queue h = total (λ p. one (p.act.queue == queue)) h
 
@@ -30,7 +30,7 @@ entries_on queue h = total (posted_on queue) h
 abbrev pub depth_of : GeometryFields → ℕ → ℕ
 depth_of g queue = g.depth
 
--- the head that a queue's entries show: its acts so far, the newest among them, in a ring of its depth
+-- the head that a queue's entries show: the number of its acts so far, with the newest, modulo the depth of its ring
 abbrev pub head_of : GeometryFields → ℕ → ℕ → ℕ
 head_of g queue acts = acts % depth_of g queue
 
@@ -54,18 +54,18 @@ block_dwords lba = record { dw0 = lba % 2 ^ 32; dw1 = lba / 2 ^ 32 }
 abbrev pub event_dwords : Dwords
 event_dwords = record { dw0 = 0x00bfef02; dw1 = 1 }
 
--- what a command that succeeds gives beside its bytes
+-- the dwords that a command gives when it succeeds
 abbrev pub dwords_by : GeometryFields → List Place → Option ℕ → Cmd → Dwords
 dwords_by g h fired (cmd.Append nsid zslba blocks) = block_dwords (first g (zone_of g zslba) + pointer g h (zone_of g zslba))
 dwords_by g h fired (cmd.GetFeature feature) = record { dw0 = if enabled h then 0x08000000 else 0; dw1 = 0 }
 dwords_by g h fired cmd.Event = event_dwords
 dwords_by g h fired _ = no_dwords
 
--- What an act gives in dwords 0 and 1 of its entry.
+-- Dwords 0 and 1 of an act's entry.
 unfoldable pub dwords_of : GeometryFields → List Place → Act → Dwords
 dwords_of g h a = if is_success (status g h a) then dwords_by g h (fires g h a) (command_of a) else no_dwords
 
--- an entry of a queue, which has had so many acts and entries, for the command with this number
+-- the entry of a queue, given the number of acts and of entries that it has had, for the command with this identifier
 abbrev pub entry : GeometryFields → ℕ → ℕ → ℕ → ℕ → Status → Dwords → Cqe
 entry g queue acts entries cid status dwords = record {
   dw0 = dwords.dw0;
@@ -86,7 +86,7 @@ own_entry g h a = entry g a.queue (acts_on a.queue h + 1) (entries_on a.queue h)
 abbrev pub event_entry : GeometryFields → List Place → ℕ → Cqe
 event_entry g h cid = entry g 0 (acts_on 0 h + 1) (entries_on 0 h + 1) cid success event_dwords
 
--- an event request that succeeds and is not answered at once
+-- an event request that succeeds and isn't answered at once
 abbrev pub waits : GeometryFields → List Place → Act → Bool
 waits g h a = is_success (status g h a) && is_event_request (command_of a) && is_none (fires g h a)
 

@@ -1,4 +1,4 @@
--- What a list with room for more is seen as.
+-- The view of a list with room for more.
 use Rattle.std.specs.Prelude.{ℕ, List}
 use Rattle.zone_model.specs.declared.act.Act.{Act}
 use Rattle.zone_model.specs.declared.reply.Reply.{Reply}

@@ -24,7 +24,7 @@ use Rattle.zone_model.specs.Reach.{reach}
 
 -- ---- refusals
 
--- a zone is after the new places what it was after the old ones
+-- the zone is the same after the new places as after the old ones
 pub record IsUnchanged (g : GeometryFields) (old new : List Place) (z : ℕ) : Type 0 where
   pub state : state g new z ≡ state g old z
   pub window : window g new z ≡ window g old z
@@ -58,7 +58,7 @@ pub record FirstHolds (rows : List (Row Status)) (code : Status) : Type 0 where
   pub holds : row.holds ≡ true
   pub answers : row.answer ≡ code
 
--- A refused act has the code of the first row of its command that holds.
+-- The status of a refused act is the code of the first row of its command that holds.
 abbrev pub FirstRefusal : Type 0
 FirstRefusal = (g : GeometryFields) (h : List Place) (a : Act) → is_success (status g h a) ≡ false → FirstHolds (all_rows g h (table_of g h (command_of a))) (status g h a)
 
@@ -67,7 +67,7 @@ FirstRefusal = (g : GeometryFields) (h : List Place) (a : Act) → is_success (s
 abbrev pub is_reached : GeometryFields → Act → ℕ → Bool
 is_reached g a z = list_any (λ y. y == z) (reach g a)
 
--- Nothing is done to a zone that is out of an act's reach, and isn't closed for another.
+-- An act does nothing to a zone outside its reach, unless it closes the zone for another.
 abbrev pub UntouchedIsIdle : Type 0
 UntouchedIsIdle = (g : GeometryFields) (h : List Place) (a : Act) (z : ℕ) → z < g.zones → is_reached g a z ≡ false → is_zone z (evicted g h a) ≡ false → zone_deed g h a z ≡ None
 
@@ -101,7 +101,7 @@ CommittedStays = (g : GeometryFields) → IsGeometry g → (acts : List Act) (a 
 
 -- ---- pointers
 
--- a deed was done to the zone, and moved its pointer in one of the ways
+-- a deed was done to the zone, and moved its pointer in one of the allowed ways
 pub record HasMoved (g : GeometryFields) (h : List Place) (a : Act) (z : ℕ) : Type 0 where
   pub deed : Deed
   pub done : zone_deed g h a z ≡ Some deed
@@ -110,8 +110,8 @@ pub record HasMoved (g : GeometryFields) (h : List Place) (a : Act) (z : ℕ) : 
 abbrev pub MovesPointers : GeometryFields → List Place → Act → Type 0
 MovesPointers g h a = (z : ℕ) → window g h z ≡ true → pointer g (and_then g h a) z ≢ pointer g h z → HasMoved g h a z
 
--- The pointer of a zone with a random write area moves in no other way: a commit moves it past its last block, a Write
--- by the fewest granules that let it end inside the area, and a reset and a finish lead to the start and the capacity.
+-- The pointer of a zone with a random write area moves in no other way: a commit moves it past its last block, a Write by the fewest
+-- granules that let the Write end inside the area, a reset to the start and a finish to the capacity.
 abbrev pub PointerMoves : Type 0
 PointerMoves = (g : GeometryFields) → IsGeometry g → (acts : List Act) (a : Act) → MovesPointers g (answered g acts) a
 
@@ -123,20 +123,19 @@ PointerIsLeast = (g : GeometryFields) → IsGeometry g → (acts : List Act) (z 
 
 -- ---- transitions
 
--- What an act does to a zone, also to one that it closes for another, is what the table of transitions allows there.
+-- What an act does to a zone, also to one that it closes for another, is allowed there by the table of transitions.
 abbrev pub MovesAreAllowed : Type 0
 MovesAreAllowed = (g : GeometryFields) (h : List Place) (a : Act) (z : ℕ) (m : Action) → zone_move g h a z ≡ Some m → is_ok (go m (state g h z)) ≡ true
 
 -- ---- limits
 
--- After every history the active and opened zones and the random write areas are within their limits.
+-- After every history the numbers of active zones, open zones and random write areas are within their limits.
 abbrev pub WithinLimits : Type 0
 WithinLimits = (g : GeometryFields) → IsGeometry g → (acts : List Act) → AreWithin g (counts g (answered g acts))
 
 -- ---- all three
 
--- At each place of a history, for each zone and block: the limits hold, pointers move as they may, and committed
--- blocks stay.
+-- At each place of a history, for each zone and block: the limits hold, pointers move only as allowed, and committed blocks stay.
 pub record IsKept (g : GeometryFields) (acts : List Act) : Type 0 where
   pub limits : (before after : List Act) → acts ≡ before ++ after → AreWithin g (counts g (answered g before))
   pub pointers : (before after : List Act) (a : Act) → acts ≡ before ++ a ∷ after → MovesPointers g (answered g before) a

@@ -1,4 +1,4 @@
--- What an act's own zones decide alone. Each fact is the contract of a function.
+-- What an act's own zones alone decide. Each fact is the contract of a function.
 use Rattle.std.specs.Prelude.{◌≡◌, ℕ, ◌+◌, ◌≤◌, Bool, true, false, List, None}
 use Rattle.std.specs.List.{range_with_len}
 use Rattle.zns_types.specs.declared.fields.GeometryFields.{GeometryFields}
@@ -26,34 +26,34 @@ act_table g h a = table_of g h (command_of a)
 abbrev pub act_wants_room : GeometryFields → List Place → Act → Bool
 act_wants_room g h a = wants_room g (counts g h) (judging_rows (act_table g h a)) (act_table g h a).need
 
--- no zone gives way, and the status is the same whatever zones could
+-- no zone gives way, and the status is the same whichever zones could give way
 pub record IsDecidedAlone (g : GeometryFields) (h : List Place) (a : Act) : Type 0 where
   pub evicted : evicted g h a ≡ None
   pub status : (evictable : Bool) → status g h a ≡ first_refusal (table_rows g (counts g h) evictable (act_table g h a))
 
--- Where no other zone has to give way, the counts and the act's own zones decide alone.
+-- If no other zone has to give way, the counts and the act's own zones alone decide.
 abbrev pub NoneGivesWay : Type 0
 NoneGivesWay = (g : GeometryFields) (h : List Place) (a : Act) → act_wants_room g h a ≡ false → IsDecidedAlone g h a
 
--- A write to an opened zone needs nothing.
+-- A write to an open zone needs no resource.
 abbrev pub OpenedNeedsNothing : Type 0
 OpenedNeedsNothing = (d : Deed) (zone : Zone) → is_write d ≡ true → is_opened zone.state ≡ true → need_for d zone ≡ no_need
 
--- two ways to tell the states of zones agree on the zones of these blocks
+-- two functions that give the states of zones agree on the zones of these blocks
 abbrev pub SameStates : GeometryFields → (ℕ → State) → (ℕ → State) → ℕ → ℕ → Type 0
 SameStates g s t slba blocks = (z : ℕ) → zone_of g slba ≤ z → z ≤ last_zone g slba blocks → s z ≡ t z
 
--- The zones of a Read decide what refuses it.
+-- Only its own zones decide whether a Read is refused.
 abbrev pub ReadIsLocal : Type 0
 ReadIsLocal = (g : GeometryFields) (s t : ℕ → State) (slba blocks : ℕ) → SameStates g s t slba blocks → read_rows g s slba blocks ≡ read_rows g t slba blocks
 
--- so many zones of the drive, from one on
+-- consecutive zones of the drive
 pub record IsRange (g : GeometryFields) (zones : List ℕ) : Type 0 where
   pub first : ℕ
   pub count : ℕ
   pub all : zones ≡ range_with_len first count
   pub within : first + count ≤ g.zones
 
--- The zones of an act are a range of the drive's.
+-- The zones of an act are a range of the drive's zones.
 abbrev pub ReachIsRange : Type 0
 ReachIsRange = (g : GeometryFields) → IsGeometry g → (a : Act) → IsRange g (reach g a)

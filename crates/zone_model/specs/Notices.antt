@@ -11,7 +11,7 @@ use Rattle.zone_model.specs.Places.{Place, took, command_of, changed_zone, had_e
 use Rattle.zone_model.specs.Zones.{zones}
 use Rattle.drive_rules.specs.Shown.{one}
 
--- The zones in which an excursion took since they were last read and cleared, rising.
+-- The zones that a successful excursion changed since they were last read and cleared, rising.
 unfoldable pub changed : GeometryFields → List Place → List ℕ
 changed g h = filter (λ z. list_any (changed_zone g z) (since_cleared h)) (zones g)
 
@@ -24,20 +24,20 @@ unfoldable pub enabled : List Place → Bool
 enabled [] = false
 enabled (p ∷ h) = enabled_by (took p) (command_of p.act) (enabled h)
 
--- An event was told, and the changed zones were not read and cleared since.
+-- An event was reported, and the changed zones have not been read and cleared since.
 unfoldable pub masked : List Place → Bool
 masked h = list_any (λ p. is_some p.fired) (since_cleared h)
 
--- an excursion took while notices were enabled, and the changed zones were not read and cleared since
+-- an excursion succeeded while notices were enabled, and the changed zones have not been read and cleared since
 abbrev pub noticed : List Place → Bool
 noticed [] = false
 noticed (p ∷ h) = if cleared p then false else (had_excursion p && enabled h) || noticed h
 
--- An event is there to be told.
+-- An event is there to be reported.
 unfoldable pub pending : List Place → Bool
 pending h = not (masked h) && noticed h
 
--- the numbers of the event requests that were not answered at once, in order
+-- the identifiers of the event requests that were not answered at once, in order
 abbrev pub requests : List Place → List ℕ
 requests [] = []
 requests (p ∷ h) = if waited p then requests h ++ cid_of p.act.sqe.bytes ∷ [] else requests h
@@ -46,7 +46,7 @@ requests (p ∷ h) = if waited p then requests h ++ cid_of p.act.sqe.bytes ∷ [
 abbrev pub answered_requests : List Place → ℕ
 answered_requests h = total (λ p. one (had_excursion p && is_some p.fired)) h
 
--- The event requests that wait, by their numbers, the oldest first.
+-- The identifiers of the event requests that wait, the oldest first.
 unfoldable pub waiting : List Place → List ℕ
 waiting h = drop (answered_requests h) (requests h)
 
@@ -54,8 +54,8 @@ abbrev pub first_of : List ℕ → Option ℕ
 first_of [] = None
 first_of (x ∷ xs) = Some x
 
--- which event request an act that succeeds answers: an excursion, the oldest that waits; an event request, itself
--- where an event is there to be told
+-- the event request that an act answers when it succeeds: for an excursion, the oldest that waits; for an event request, itself if there is
+-- an event to report
 abbrev pub fires_by : List Place → ℕ → Cmd → Option ℕ
 fires_by h cid (cmd.Excursion nsid slba kind) = if enabled h && not (masked h) then first_of (waiting h) else None
 fires_by h cid cmd.Event = if pending h then Some cid else None

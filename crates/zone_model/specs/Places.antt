@@ -1,5 +1,5 @@
--- A history: what was asked and what was answered, the newest place first. A place says what one act did; what a
--- drive has become is found by looking back over the places.
+-- A history of what was asked and answered, the newest place first. A place says what one act did; the drive's present state is found by
+-- looking back over the places.
 use Rattle.std.specs.Prelude.{ℕ, ◌+◌, Bool, true, false, not, ◌&&◌, ◌==◌, if◌then◌else◌, List, [], ◌∷◌, Option, Some, None, is_some}
 use Rattle.zns_types.specs.declared.fields.GeometryFields.{GeometryFields}
 use Rattle.zns_types.specs.Statuses.{Status, is_success}
@@ -28,7 +28,7 @@ command_of a = command (a.queue == 0) a.sqe.bytes
 
 -- ---- what was done to a zone
 
--- deeds, and one more where there is one
+-- deeds, with one more if there is one
 abbrev pub with_deed : Option Deed → List ℕ → List Done → List Done
 with_deed None payload ds = ds
 with_deed (Some d) payload ds = record { deed = d; payload = payload } ∷ ds
@@ -45,7 +45,7 @@ abbrev pub is_excursion : Cmd → Bool
 is_excursion (cmd.Excursion nsid slba kind) = true
 is_excursion _ = false
 
--- the excursion's zone entered the changed zones
+-- the excursion's zone became one of the changed zones
 abbrev pub changes : GeometryFields → ℕ → Cmd → Bool
 changes g z (cmd.Excursion nsid slba kind) = zone_of g slba == z
 changes g z _ = false

@@ -9,11 +9,11 @@ use Rattle.zone_model.specs.Places.{command_of}
 use Rattle.zone_model.specs.Zones.{zones}
 use Rattle.drive_rules.specs.Tables.{zones_between, last_zone}
 
--- the zone of a block, where the namespace has the block
+-- the zone of a block, if the namespace has the block
 abbrev pub zone_with : GeometryFields → ℕ → List ℕ
 zone_with g lba = if nat_lt lba (all_blocks g) then zone_of g lba ∷ [] else []
 
--- the zones of blocks, where the namespace has them all
+-- the zones of blocks, if the namespace has them all
 abbrev pub zones_with : GeometryFields → ℕ → ℕ → List ℕ
 zones_with g slba blocks = if nat_le (slba + blocks) (all_blocks g) then zones_between (zone_of g slba) (last_zone g slba blocks) else []
 
@@ -26,6 +26,6 @@ reach_of g (cmd.Receive nsid slba bytes act filter partial) = zones g
 reach_of g (cmd.Excursion nsid slba kind) = zone_with g slba
 reach_of g _ = []
 
--- An act's zones, rising, without one that it closes for another.
+-- An act's zones, rising, without a zone that it closes for another.
 abbrev pub reach : GeometryFields → Act → List ℕ
 reach g a = reach_of g (command_of a)

@@ -22,7 +22,7 @@ descriptors g h = map (descriptor g h) (zones g)
 abbrev pub blocks_read : GeometryFields → List Place → ℕ → ℕ → List ℕ
 blocks_read g h slba blocks = flat_map (λ lba. seen g h (zone_of g lba) (offset_of g lba)) (range_with_len slba blocks)
 
--- what a command reads where it succeeds
+-- what a command reads when it succeeds
 abbrev pub read_by : GeometryFields → List Place → Cmd → List ℕ
 read_by g h (cmd.Read nsid slba blocks) = blocks_read g h slba blocks
 read_by g h (cmd.Receive nsid slba bytes act filter partial) = report bytes filter partial (drop (zone_of g slba) (descriptors g h))

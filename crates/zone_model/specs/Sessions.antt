@@ -38,7 +38,7 @@ sent_bytes acts = sum_of (λ a. length a.payload) acts
 abbrev pub asked_bytes : GeometryFields → List Act → ℕ
 asked_bytes g acts = sum_of (λ a. reply_len g (command_of a)) acts
 
--- the numbers of a header that no rule on geometries bounds fit their bytes
+-- the numbers of a header that no rule on geometries bounds fit into their fields
 pub record HasWidths (g : GeometryFields) : Type 0 where
   pub active_limit : g.active_limit < 2 ^ 32
   pub open_limit : g.open_limit < 2 ^ 32
@@ -80,7 +80,7 @@ record_bytes a = little_bytes 2 a.queue ++ (0 ∷ 0 ∷ []) ++ little_bytes 4 (l
 unfoldable pub spelling : Recorded → List ℕ
 spelling s = header_bytes s.geometry (length s.acts) ++ flat_map record_bytes s.acts
 
--- These bytes, and no more, are the session.
+-- These bytes are the session, and nothing more.
 abbrev pub spells : Recorded → List ℕ → Type 0
 spells s bytes = bytes ≡ spelling s
 
@@ -102,7 +102,7 @@ abbrev pub next_then : Option Act → List Act → List Act
 next_then None acts = acts
 next_then (Some a) acts = a ∷ acts
 
--- The acts in the order in which the queues are named: at each place the next act of the named queue.
+-- The acts in the order in which the queues are named: for each name, the next act of that queue.
 abbrev pub merged : List Act → List ℕ → List Act
 merged acts [] = []
 merged acts (queue ∷ order) = next_then (next_of queue acts) (merged (rest_of queue acts) order)
@@ -115,12 +115,12 @@ IsOrder acts order = (queue : ℕ) → count_by (λ q. q == queue) order ≡ cou
 abbrev pub acts_of : ℕ → List Act → List Act
 acts_of queue acts = filter (is_of queue) acts
 
--- each act once, and those of each queue in their own order
+-- each act once, with those of each queue in their own order
 pub record IsMerge (acts mixed : List Act) : Type 0 where
   pub count : length mixed ≡ length acts
   pub queues : (queue : ℕ) → acts_of queue mixed ≡ acts_of queue acts
 
--- Acts in the order of an order of them are all of these acts, each queue's in its own order.
+-- Acts merged by an order of their queues are all of these acts, with each queue's in its own order.
 abbrev pub MergeKeepsOrder : Type 0
 MergeKeepsOrder = (acts : List Act) (order : List ℕ) → IsOrder acts order → IsMerge acts (merged acts order)
 
@@ -133,20 +133,20 @@ own_order acts = map (λ a. a.queue) acts
 
 -- ---- results
 
--- what is written of one act: the number of its entries, the entries, the number of its bytes, and the bytes
+-- the part of a result for one act: the number of its entries, the entries, the number of its bytes, and the bytes
 abbrev pub reply_part : List Cqe → List ℕ → List ℕ
 reply_part entries read = little_bytes 2 (length entries) ++ flat_map entry_bytes entries ++ little_bytes 4 (length read) ++ read
 
--- what is written of acts that come after a history
+-- the parts for acts that come after a history
 abbrev pub replies_bytes : GeometryFields → List Place → List Act → List ℕ
 replies_bytes g h [] = []
 replies_bytes g h (a ∷ acts) = reply_part (posted g h a) (reply_bytes g h a) ++ replies_bytes g (and_then g h a) acts
 
--- what is written of an order
+-- the bytes of an order
 abbrev pub order_bytes : List ℕ → List ℕ
 order_bytes order = codes "ZNSR0001" ++ little_bytes 4 (length order) ++ flat_map (little_bytes 2) order
 
--- The result file of acts that were served in an order: the order, the replies to the acts, and what the drive then is.
+-- The result file of acts that were served in an order: the order, the replies to the acts, and the final state of the drive.
 unfoldable pub result_bytes : GeometryFields → List ℕ → List Act → List ℕ
 result_bytes g order acts =
     order_bytes order

@@ -25,7 +25,7 @@ state g h z = state_of g (deeds h z)
 abbrev pub window : GeometryFields → List Place → ℕ → Bool
 window g h z = window_of g (deeds h z)
 
--- what the rows of a refusal read of a zone
+-- what refusal rows see of a zone
 abbrev pub zone : GeometryFields → List Place → ℕ → Zone
 zone g h z = sight_of g (deeds h z)
 
@@ -33,11 +33,11 @@ zone g h z = sight_of g (deeds h z)
 abbrev pub block : GeometryFields → List Place → ℕ → ℕ → Option (List ℕ)
 block g h z b = block_of g (deeds h z) b
 
--- a block as a Read gives it
+-- a block as a Read returns it
 abbrev pub seen : GeometryFields → List Place → ℕ → ℕ → List ℕ
 seen g h z b = seen_of g (deeds h z) b
 
--- a block that stays as it is until Reset or Offline
+-- a block that doesn't change until Reset or Offline
 abbrev pub committed : GeometryFields → List Place → ℕ → ℕ → Bool
 committed g h z b = is_committed g (deeds h z) b
 
@@ -49,7 +49,7 @@ attributes g h z = attributes_of g (deeds h z)
 abbrev pub zones : GeometryFields → List ℕ
 zones g = range_with_len 0 g.zones
 
--- what zones use, all together
+-- the resources that the zones use in total
 unfoldable pub counted : GeometryFields → (ℕ → Need) → Limits
 counted g uses = record {
   active = count_by (λ z. (uses z).active) (zones g);
@@ -61,7 +61,7 @@ counted g uses = record {
 abbrev pub uses : GeometryFields → List Place → ℕ → Need
 uses g h z = use_of (zone g h z)
 
--- how much is in use
+-- the resources that are in use
 abbrev pub counts : GeometryFields → List Place → Limits
 counts g h = counted g (uses g h)
 

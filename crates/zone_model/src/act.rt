@@ -1,7 +1,7 @@
 use sqe_codec::Sqe;
 use zns_io::Bytes;
 
-/// An entry on a queue, with the host's data.
+/// A submission queue entry with its queue and the host's data.
 #[derive(Drop)]
 pub struct Act {
     pub queue: u16,

@@ -26,7 +26,7 @@ impl Model for Acts {
 }
 
 impl Acts {
-    /// None yet, and room for so many.
+    /// An empty list with room for `room` acts.
     pub fn new(alloc: Global, room: u32) -> Result<Acts, NoMemory>
         ensures { IfOk result (λ l. l ≡ record { acts = []; spare = room }) }
     {
@@ -34,7 +34,7 @@ impl Acts {
         Ok(Acts { acts, room })
     }
 
-    /// One more at the end.
+    /// Appends an act.
     pub fn push(&mut self, act: Act)
         requires { 0 < self.old.spare }
         ensures acts { self.new.acts ≡ self.old.acts ++ act ∷ [] }
@@ -46,28 +46,28 @@ impl Acts {
         }
     }
 
-    /// How many more there is room for.
+    /// The number of further acts that there is room for.
     pub fn spare(&self) -> u32
         ensures { result ≡ self.now.spare }
     {
         self.room
     }
 
-    /// How many there are.
+    /// The number of acts.
     pub fn len(&self) -> u32
         ensures { result ≡ length self.now.acts }
     {
         self.acts.len() as u32
     }
 
-    /// Whether there are none.
+    /// Whether there are no acts.
     pub fn is_empty(&self) -> bool
         ensures { IsTrue result ↔ (self.now.acts ≡ []) }
     {
         self.acts.is_empty()
     }
 
-    /// An act by its number from 0.
+    /// The act at index `number`, counted from 0.
     pub fn act(&self, number: u32) -> &Act
         requires { number < length self.now.acts }
         ensures { (d : Act) → result.now ≡ slice_index_or self.now.acts number d }
@@ -75,7 +75,7 @@ impl Acts {
         &self.acts[number as usize]
     }
 
-    /// All of them, in order.
+    /// The acts, in order.
     pub fn into_vec(self) -> Vec<Act>
         ensures { result.items ≡ self.acts }
     {

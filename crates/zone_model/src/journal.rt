@@ -26,7 +26,7 @@ impl Model for Journal {
 }
 
 impl Journal {
-    /// None yet, and room for so many.
+    /// An empty journal with room for `room` acts.
     pub fn new(alloc: Global, room: u32) -> Result<Journal, NoMemory>
         ensures { IfOk result (λ l. l ≡ record { acts = []; spare = room }) }
     {
@@ -34,7 +34,7 @@ impl Journal {
         Ok(Journal { acts, room })
     }
 
-    /// One more at the end.
+    /// Appends an act.
     pub fn push(&mut self, act: Act)
         requires { 0 < self.old.spare }
         ensures acts { self.new.acts ≡ self.old.acts ++ act ∷ [] }
@@ -47,28 +47,28 @@ impl Journal {
         }
     }
 
-    /// How many more there is room for.
+    /// The number of further acts that there is room for.
     pub fn spare(&self) -> u32
         ensures { result ≡ self.now.spare }
     {
         self.room
     }
 
-    /// How many there are.
+    /// The number of acts.
     pub fn len(&self) -> u32
         ensures { result ≡ length self.now.acts }
     {
         self.acts.len() as u32
     }
 
-    /// Whether there are none.
+    /// Whether there are no acts.
     pub fn is_empty(&self) -> bool
         ensures { IsTrue result ↔ (self.now.acts ≡ []) }
     {
         self.acts.is_empty()
     }
 
-    /// The queue of an act by its number from 0. No call lends an act.
+    /// The queue of the act at index `number`, counted from 0. No call lends an act.
     pub fn queue(&self, number: u32) -> u16
         requires { number < length self.now.acts }
         ensures { (d : Act) → result ≡ (slice_index_or self.now.acts number d).queue }
@@ -76,7 +76,7 @@ impl Journal {
         self.acts[number as usize].queue
     }
 
-    /// All of them, in order.
+    /// The acts, in order.
     pub fn into_vec(self) -> Vec<Act>
         ensures { result.items ≡ self.acts }
     {

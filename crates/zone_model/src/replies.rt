@@ -26,7 +26,7 @@ impl Model for Replies {
 }
 
 impl Replies {
-    /// None yet, and room for so many.
+    /// An empty list with room for `room` replies.
     pub fn new(alloc: Global, room: u32) -> Result<Replies, NoMemory>
         ensures { IfOk result (λ l. l ≡ record { replies = []; spare = room }) }
     {
@@ -34,7 +34,7 @@ impl Replies {
         Ok(Replies { replies, room })
     }
 
-    /// One more at the end.
+    /// Appends a reply.
     pub fn push(&mut self, reply: Reply)
         requires { 0 < self.old.spare }
         ensures replies { self.new.replies ≡ self.old.replies ++ reply ∷ [] }
@@ -46,28 +46,28 @@ impl Replies {
         }
     }
 
-    /// How many more there is room for.
+    /// The number of further replies that there is room for.
     pub fn spare(&self) -> u32
         ensures { result ≡ self.now.spare }
     {
         self.room
     }
 
-    /// How many there are.
+    /// The number of replies.
     pub fn len(&self) -> u32
         ensures { result ≡ length self.now.replies }
     {
         self.replies.len() as u32
     }
 
-    /// Whether there are none.
+    /// Whether there are no replies.
     pub fn is_empty(&self) -> bool
         ensures { IsTrue result ↔ (self.now.replies ≡ []) }
     {
         self.replies.is_empty()
     }
 
-    /// A reply by its number from 0.
+    /// The reply at index `number`, counted from 0.
     pub fn reply(&self, number: u32) -> &Reply
         requires { number < length self.now.replies }
         ensures { (d : Reply) → result.now ≡ slice_index_or self.now.replies number d }
@@ -75,7 +75,7 @@ impl Replies {
         &self.replies[number as usize]
     }
 
-    /// All of them, in order.
+    /// The replies, in order.
     pub fn into_vec(self) -> Vec<Reply>
         ensures { result.items ≡ self.replies }
     {

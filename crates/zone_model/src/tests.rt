@@ -6,7 +6,7 @@ use std::alloc::Global;
 use std::test::Fail;
 use zns_io::Bytes;
 
-// An act that says only its queue.
+// An act with an all-zero entry and no host data.
 fn act(alloc: Global, queue: u16) -> Act {
     Act {
         queue,

@@ -34,7 +34,7 @@ shown cells at c but lt is =
     let same : cell_in cells at ≡ c = get_or_default cells at no_cell c lt ∙ sym is in
     ap (λ (x : Cell). is_implicitly_opened x.state && not (at == but)) same
 
--- what is found is an Implicitly Opened zone, and another
+-- what is found is an Implicitly Opened zone other than the one at `but`
 pub record IsFound (cells : List Cell) (but y : ℕ) : Type 0 where
   pub below : y < length cells
   pub opened : is_implicitly_opened (cell_in cells y).state ≡ true

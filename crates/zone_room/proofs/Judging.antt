@@ -16,7 +16,7 @@ use Rattle.drive_rules.specs.Tables.{wants_room}
 later_rows : GeometryFields → Limits → Need → Bool → List (Row Status)
 later_rows g n need evictable = no_open_left g n need evictable ∷ no_window_left g n need ∷ []
 
--- where an earlier row holds, no later one matters
+-- if an earlier row holds, no later one matters
 earlier_row : (g : GeometryFields) (n : Limits) (rows : List (Row Status)) (need : Need) (evictable : Bool) (s : Status) → first_holding (rows ++ no_active_left g n need ∷ []) ≡ Some s → first_holding (rows ++ need_rows g n need evictable) ≡ Some s
 unfolding later_rows
 earlier_row g n rows need evictable s e =
@@ -26,7 +26,7 @@ some_is : (o : Option Status) → is_none o ≡ false → (s : Status) × (o ≡
 some_is (Some s) e = (s, refl)
 some_is None e = absurd cc
 
--- below the open limit, or where no open resource is needed
+-- below the open limit, or if no open resource is needed
 same_rows : (g : GeometryFields) (n : Limits) (need : Need) (a b : Bool) → evicts g n need ≡ false → need_rows g n need a ≡ need_rows g n need b
 same_rows g n need a b e = rw e refl
 

@@ -1,4 +1,4 @@
--- After one zone gave way, or none, what is needed is left, and the target's use is still counted.
+-- After one zone, or none, gave way, the resources that are needed are left, and the target's use is still counted.
 use Rattle.std.proofs.Common.{◌≡◌, ℕ, ◌-◌, ◌<◌, ◌≤◌, ◌⊎◌, Bool, IsTrue, true, false, None, refl, ap, arith, inl, inr}
 use Rattle.std.specs.Prelude.{◌&&◌, ◌==◌, not, nat_le}
 use Rattle.std.proofs.lemmas.Bool.{and_cases, not-false, eqb-true, leb-false}
@@ -28,7 +28,7 @@ on_left : (a b : Bool) → (a && b) ≡ false → IsTrue a → b ≡ false
 on_left true b e on = e
 on_left false b e on = absurd (cc on)
 
--- what rows say of resources that they don't find wanting
+-- what it means that the rows find no resource missing
 record NoWant (g : GeometryFields) (n : Limits) (need : Need) (evictable : Bool) : Type 0 where
   active : (need.active && at_limit g.active_limit n.active) ≡ false
   opened : (need.opened && at_limit g.open_limit n.opened && not evictable) ≡ false
@@ -42,7 +42,7 @@ unreached true false e on = refl
 unreached true true e on = absurd (cc e)
 unreached false b e on = absurd (cc on)
 
--- where no zone is closed
+-- the case where no zone is closed
 pub needed_left : (g : GeometryFields) (n : Limits) (need : Need) → first_holding (need_rows g n need false) ≡ None → HasNeeded g n need
 needed_left g n need none =
     let wants = no_want g n need false none in
@@ -58,7 +58,7 @@ implicit : (s : State) → is_implicitly_opened s ≡ true → s ≡ ImplicitlyO
 implicit ImplicitlyOpened e = refl
 implicit _ e = absurd (cc e)
 
--- one opened zone fewer, and all else the same
+-- one opened zone fewer, and everything else the same
 pub record OneFewer (g : GeometryFields) (n m : Limits) : Type 0 where
   active : m.active ≡ n.active
   opened : m.opened ≡ n.opened - 1

@@ -1,4 +1,4 @@
--- What a zone uses after a deed that its rows admit, and did not use before, is what the deed needs.
+-- A resource that a zone uses after a deed that its rows admit, but not before it, is one that the deed needs.
 use Rattle.std.proofs.Common.{◌≡◌, ℕ, Bool, IsTrue, true, false, List, None, Result, Ok, Err, refl}
 use Rattle.std.specs.Prelude.{◌&&◌, ◌||◌, not, is_ok, if◌then◌else◌}
 use Rattle.std.proofs.lemmas.Bool.{and_parts, not-false}
@@ -76,7 +76,7 @@ closed_needs _ on off = absurd (cc on)
 
 -- ---- the others
 
--- the second holds where the first does
+-- the second holds if the first does
 abbrev implies : Bool → Bool → Bool
 implies a b = if a then b else true
 
@@ -84,7 +84,7 @@ implied : (a b : Bool) → implies a b ≡ true → a ≡ true → b ≡ true
 implied true b e on = e
 implied false b e on = absurd (cc on)
 
--- a result of the table by which a zone is in use only where it was
+-- a result of the table that leaves a zone in use only if it was before
 abbrev keeps_use : State → Result State Status → Bool
 keeps_use s (Ok t) = implies (is_active t) (is_active s) && implies (is_opened t) (is_opened s)
 keeps_use s (Err code) = true
@@ -118,7 +118,7 @@ excursion_keeps false false false true five s = read_only_keeps s
 excursion_keeps false false false false true s = offline_keeps s
 excursion_keeps false false false false false s = refl
 
--- where it led to
+-- the state it led to
 abbrev led_to : Result State Status → State → State
 led_to r s = elim r [ Ok t ↦ t | Err code ↦ s ]
 
@@ -171,7 +171,7 @@ uses_no_more g (deed.Excursion kind) payload c of none =
     let keeps = kept c.state (excursion kind c.state) (excursion_keeps _ _ _ _ _ c.state) in
     record { active = λ on off. absurd (cc (keeps.active on, off)); opened = λ on off. absurd (cc (keeps.opened on, off)); window = λ on off. absurd (no_new_window c.window _ on off) }
 
--- what is needed is room for it
+-- if the resources that are needed are left, there is room for the new use
 pub room_for : (g : GeometryFields) (n : Limits) (need before after : Need) → UsesNoMore need before after → HasNeeded g n need → HasRoomFor g n before after
 room_for g n need before after uses left = record {
   active = λ on off. left.active (uses.active on off);

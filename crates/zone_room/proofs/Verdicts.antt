@@ -1,4 +1,4 @@
--- The verdict, by what the driver finds out step by step.
+-- The verdict, from what the driver finds out step by step.
 use Rattle.std.proofs.Common.{◌≡◌, ℕ, ◌<◌, Bool, true, false, cond, List, Option, Some, None, length, refl, sym, ap, ◌∙◌, arith, get_or, set, get_or-set_other, length-set}
 use Rattle.std.specs.Prelude.{◌&&◌, not, is_some, Ok, Err, All}
 use Rattle.std.proofs.lemmas.List.{get_or_default}
@@ -54,7 +54,7 @@ refused_at g cells n place all d x s lt e =
     let same = get_or_default cells place no_cell x lt in
     on_refused g n (rows_at g cells place d) (need_at cells place d) all (victim_at g cells n place d) s (ap (λ (c : Cell). first_holding (rows_for g d (sight c))) same ∙ refuses _ _ s e)
 
--- no row of the zone at a place refuses the deed, which needs this
+-- no row of the zone at a place refuses the deed, which has this need
 record IsAdmitted (g : GeometryFields) (cells : List Cell) (place : ℕ) (d : Deed) (need : Need) : Type 0 where
   rows : first_holding (rows_at g cells place d) ≡ None
   need_is : need_at cells place d ≡ need
@@ -83,7 +83,7 @@ pub record GivesWay (cells : List Cell) (place : ℕ) (need : Need) (y : ℕ) : 
   pub found : evictable_in cells place ≡ Some y
   pub opened : need.opened ≡ true
 
--- what is known before the wants of resources judge
+-- what is known before the rows for the needed resources judge
 pub record IsReady (g : GeometryFields) (cells : List Cell) (n : Limits) (place : ℕ) (all : Bool) (d : Deed) (need : Need) (victim : Option ℕ) : Type 0 where
   pub rows : first_holding (rows_at g cells place d) ≡ None
   pub need_is : need_at cells place d ≡ need

@@ -1,5 +1,5 @@
--- Room for a zone that needs resources: where no open one is left, another zone is closed for it. Zoned Namespace Command
--- Set Specification 1.1, 2.1.1.2 (implicit close by the controller); which zone is closed is this project's choice.
+-- Room for a zone that needs resources: if no open resource is left, another zone is closed for it. Zoned Namespace Command Set
+-- Specification 1.1, 2.1.1.2 (implicit close by the controller); which zone is closed is this project's choice.
 use Rattle.std.specs.Prelude.{◌≡◌, ℕ, ◌<◌, true, false, not, ◌&&◌, ◌==◌, if◌then◌else◌, List, [], length, slice_set, slice_index_or, Option, Some, None, find}
 use Rattle.std.specs.List.{range_with_len}
 use Rattle.zns_types.specs.declared.fields.GeometryFields.{GeometryFields}
@@ -15,7 +15,7 @@ use Rattle.drive_rules.specs.Deeds.{use_of, closed_use}
 use Rattle.drive_rules.specs.Tables.{wants_room}
 use Rattle.zone_cell.specs.Cells.{Cell, sight, after_action}
 
--- what stands where there is no cell
+-- the default cell, for a place without one
 abbrev pub no_cell : Cell
 no_cell = record {
   zone = 0;
@@ -33,12 +33,12 @@ no_cell = record {
 abbrev pub cell_in : List Cell → ℕ → Cell
 cell_in cells place = slice_index_or cells place no_cell
 
--- an Implicitly Opened zone stands there
+-- an Implicitly Opened zone is at the place
 pub record IsOpenedAt (cells : List Cell) (place : ℕ) : Type 0 where
   pub below : place < length cells
   pub opened : is_implicitly_opened (cell_in cells place).state ≡ true
 
--- the place of the first Implicitly Opened zone but one
+-- the place of the first Implicitly Opened zone other than the one at a given place
 abbrev pub evictable_in : List Cell → ℕ → Option ℕ
 evictable_in cells but = find (λ at. is_implicitly_opened (cell_in cells at).state && not (at == but)) (range_with_len 0 (length cells))
 
@@ -50,7 +50,7 @@ victim_in g cells n rows need place = if wants_room g n rows need then evictable
 abbrev pub after_close : GeometryFields → Cell → Cell
 after_close g c = after_action g action.Close false c
 
--- the cells after one, or none, was closed
+-- the cells after one of them, or none, was closed
 abbrev pub with_closed : GeometryFields → Option ℕ → List Cell → List Cell
 with_closed g None cells = cells
 with_closed g (Some at) cells = slice_set cells at (after_close g (cell_in cells at))
@@ -67,7 +67,7 @@ counts_changed old new n = recounted (cell_use old) (cell_use new) n
 abbrev pub counts_closed : Cell → Limits → Limits
 counts_closed c n = recounted (cell_use c) (closed_use (cell_use c)) n
 
--- the counts after one, or none, was closed
+-- the counts after one cell, or none, was closed
 abbrev pub counts_after_close : Option ℕ → List Cell → Limits → Limits
 counts_after_close None cells n = n
 counts_after_close (Some at) cells n = counts_closed (cell_in cells at) n

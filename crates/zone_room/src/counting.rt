@@ -7,7 +7,7 @@ use zns_types::Geometry;
 use zone_cell::ZoneCell;
 use zone_limits::{Limits, Need, give_back, take};
 
-/// What a zone uses: an active resource, an open one, a random write area.
+/// The resources that a zone uses: an active resource, an open one, a random write area.
 pub fn use_of(cell: &ZoneCell) -> Need
     ensures { result ≡ cell_use cell.now }
 {
@@ -19,7 +19,7 @@ pub fn use_of(cell: &ZoneCell) -> Need
     }
 }
 
-/// Counts a zone anew whose use changed.
+/// Updates the counts for a zone whose use changed.
 pub fn recount(limits: &mut Limits, g: &Geometry, before: Need, after: Need)
     requires counted { AreCounted g.now.fields limits.old before }
     requires room { HasRoomFor g.now.fields limits.old before after }

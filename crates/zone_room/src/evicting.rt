@@ -10,14 +10,14 @@ use zone_cell::ZoneCell;
 use zone_limits::Limits;
 use zone_state::Action;
 
-// Whether a zone is Implicitly Opened, and its place is not one.
+// Whether the zone at place `at` is Implicitly Opened, and isn't the one at `but`.
 fn is_evictable(cell: &ZoneCell, at: usize, but: usize) -> bool
     ensures { result ≡ (is_implicitly_opened cell.now.state && not (at == but)) }
 {
     cell.state().is_implicitly_opened() && at != but
 }
 
-// The place of the first Implicitly Opened zone but one.
+// The place of the first Implicitly Opened zone other than the one at `but`.
 fn evictable(cells: &[ZoneCell], but: usize) -> Option<usize>
     ensures first { result ≡ evictable_in cells.now but }
     ensures opened { IfSome result (IsOpenedAt cells.now) }
@@ -30,7 +30,7 @@ fn evictable(cells: &[ZoneCell], but: usize) -> Option<usize>
     None
 }
 
-// The place of the zone that gives way to another, where one has to.
+// The place of the zone that gives way to the one at `but`, if one has to.
 pub fn victim(cells: &[ZoneCell], but: usize, wants: bool) -> Option<usize>
     ensures first { result ≡ (if wants then evictable_in cells.now but else None) }
     ensures opened { IfSome result (IsOpenedAt cells.now) }
@@ -52,7 +52,7 @@ fn close(cell: &mut ZoneCell, limits: &mut Limits, g: &Geometry)
     recount(limits, g, before, use_of(cell));
 }
 
-// Closes the zone at a place, where there is one.
+// Closes the zone at a place, if there is one.
 pub fn close_at(cells: &mut [ZoneCell], limits: &mut Limits, g: &Geometry, at: Option<usize>)
     requires of { All (IsOf g.now.fields) cells.old }
     requires counted { EachIsCounted g.now.fields limits.old cells.old }

@@ -1,5 +1,5 @@
-//! The one driver of deeds: a deed to one of the zones that are lent, with the counts of zones in
-//! use and the zone that gives way.
+//! The single driver of deeds: it does a deed to one of the lent zones, counts the zones in use,
+//! and closes another zone if one has to give way.
 #![tactic(auto)]
 
 mod counting;

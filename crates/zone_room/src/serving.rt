@@ -13,17 +13,17 @@ use zns_types::{Code, Geometry};
 use zone_cell::ZoneCell;
 use zone_limits::{Limits, need, wants_room};
 
-/// What became of a deed.
+/// The result of a deed.
 #[derive(Clone, Copy, Debug, PartialEq, Eq)]
 pub enum Served {
     Done,
     Refused(Code),
 
-    /// Another zone would have to give way, and not all zones were there to look for one.
+    /// Another zone would have to give way, and not all zones were lent to find one.
     Widens,
 }
 
-// Does a deed that its zone admits, and counts what the zone then uses.
+// Does a deed that its zone admits, and updates the counts of zones in use.
 fn change(cell: &mut ZoneCell, limits: &mut Limits, g: &Geometry, deed: Deed, payload: &[u8])
     requires of { IsOf g.now.fields cell.old }
     requires admitted { Admits g.now.fields (sight cell.old) deed }
@@ -41,9 +41,9 @@ fn change(cell: &mut ZoneCell, limits: &mut Limits, g: &Geometry, deed: Deed, pa
 }
 
 /// Does a deed to the zone at a place among the lent cells, with the host data of its command:
-/// judges by the rows of the zone and by the wants of resources, closes the zone that gives way,
-/// acts, and counts what changed. Where the cells aren't `all` zones and another zone would have
-/// to give way, it answers `Widens`. Then, and after a refusal, nothing changed.
+/// judges it by the rows of the zone and by the resources it needs, closes the zone that gives way,
+/// acts, and updates the counts. Returns `Widens` if another zone would have to give way and the
+/// cells aren't `all` zones. Then, and after a refusal, nothing has changed.
 pub fn serve_deed(
     cells: &mut [ZoneCell],
     limits: &mut Limits,

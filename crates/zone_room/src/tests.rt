@@ -63,7 +63,7 @@ fn is_counted(cell: &ZoneCell, limits: &Limits, g: &Geometry) -> bool
         && counts(zones, limits.windows, used.window)
 }
 
-// Whether each zone's use is.
+// Whether each zone's use is counted.
 fn are_counted(cells: &[ZoneCell], limits: &Limits, g: &Geometry) -> bool
     ensures { IsTrue result → EachIsCounted g.now.fields limits.now cells.now }
 {
@@ -75,7 +75,7 @@ fn are_counted(cells: &[ZoneCell], limits: &Limits, g: &Geometry) -> bool
     true
 }
 
-// Whether host data is of so many blocks, of one at least.
+// Whether host data is exactly `blocks` blocks, and at least one.
 fn has_blocks(g: &Geometry, blocks: u32, payload: &[u8]) -> bool
     ensures { IsTrue result → HasBlocks g.now.fields blocks payload.now }
 {
@@ -94,7 +94,7 @@ fn is_supplied(g: &Geometry, deed: Deed, payload: &[u8]) -> bool
     }
 }
 
-// Serves a deed, where all that it asks for is there.
+// Serves a deed, if everything it requires holds.
 fn serve(
     cells: &mut [ZoneCell],
     limits: &mut Limits,

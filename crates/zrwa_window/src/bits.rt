@@ -27,7 +27,7 @@ pub fn set_bits(words: &mut [u64], from: usize, to: usize)
     }
 }
 
-/// How many bits of the blocks from `from` up to `to` are set, counted a word at a time.
+/// The number of set bits of the blocks from `from` up to `to`, counted a word at a time.
 pub fn count_bits(words: &[u64], from: usize, to: usize) -> usize
     requires order { from ≤ to }
     requires within { to ≤ 64 * length words.now }

@@ -25,7 +25,7 @@ impl Model for Written {
 }
 
 impl Written {
-    /// So many blocks, of which none was written.
+    /// `blocks` blocks, none of which was written.
     pub fn new(alloc: Global, blocks: u32) -> Result<Written, NoMemory>
         ensures { IfOk result (λ w. w ≡ replicate blocks false) }
     {

@@ -15,7 +15,7 @@ use zone_model::Act;
 // The one namespace.
 const NAMESPACE: u32 = 1;
 
-// The blocks of host data.
+// The number of blocks of host data.
 fn blocks_in(g: &Geometry, payload: &Bytes) -> u32
     requires { IsData g.now.fields payload.now }
     ensures { result ≡ blocks_in g.now.fields payload.now }
@@ -45,9 +45,9 @@ impl<L: Link> Host<L> {
         }
     }
 
-    /// Puts a write at the ring's back, of 1 to 65,536 whole blocks from the block `lba` on, and
-    /// answers the number that the command gets: they count up from 0 and wrap. Where the ring is
-    /// full, the host data comes back.
+    /// Puts a write at the ring's back, of 1 to 65,536 whole blocks from the block `lba` on.
+    /// Returns the number that the command gets; the numbers count up from 0 and wrap. If the ring
+    /// is full, the host data comes back.
     pub fn write(&mut self, lba: u64, payload: Bytes) -> Result<u16, HostErr>
         requires { IsData self.old.geometry payload }
         ensures result { result ≡ put_gives self.old payload }
@@ -66,7 +66,7 @@ impl<L: Link> Host<L> {
     }
 
     /// Puts an append to a zone at the ring's back, of 1 to 65,536 whole blocks. Its first block's
-    /// number comes with `Done`. The answers are those of `write`.
+    /// number comes with `Done`. Returns what `write` returns.
     pub fn append(&mut self, zone: u32, payload: Bytes) -> Result<u16, HostErr>
         requires zone { zone < self.old.geometry.zones }
         requires payload { IsData self.old.geometry payload }
@@ -87,7 +87,7 @@ impl<L: Link> Host<L> {
     }
 
     /// Puts a write into a zone's random write area at the ring's back, of 1 to 65,536 whole blocks
-    /// from an offset in the zone on. The answers are those of `write`.
+    /// from the offset `offset` in the zone on. Returns what `write` returns.
     pub fn window_put(&mut self, zone: u32, offset: u64, payload: Bytes) -> Result<u16, HostErr>
         requires zone { zone < self.old.geometry.zones }
         requires offset { offset < self.old.geometry.zone_size }
@@ -119,8 +119,8 @@ impl<L: Link> Host<L> {
         )
     }
 
-    /// Puts an open of a zone with a random write area at the ring's back. The answers are those of
-    /// `write`; no host data comes back.
+    /// Puts an open of a zone with a random write area at the ring's back. Returns what `write`
+    /// returns, but no host data comes back.
     pub fn open_window(&mut self, zone: u32) -> Result<u16, HostErr>
         requires { zone < self.old.geometry.zones }
         ensures result { result ≡ put_gives self.old [] }
@@ -130,8 +130,8 @@ impl<L: Link> Host<L> {
         self.send(slba, OPEN, true)
     }
 
-    /// Puts a commit of a zone's random write area at the ring's back, up to the block at the offset
-    /// `last`. The answers are those of `open_window`.
+    /// Puts a commit of a zone's random write area at the ring's back, up to the block at the
+    /// offset `last`. Returns what `open_window` returns.
     pub fn flush_to(&mut self, zone: u32, last: u64) -> Result<u16, HostErr>
         requires zone { zone < self.old.geometry.zones }
         requires offset { last < self.old.geometry.zone_size }
@@ -142,7 +142,7 @@ impl<L: Link> Host<L> {
         self.send(slba, COMMIT, false)
     }
 
-    /// Puts a reset of a zone at the ring's back. The answers are those of `open_window`.
+    /// Puts a reset of a zone at the ring's back. Returns what `open_window` returns.
     pub fn reset(&mut self, zone: u32) -> Result<u16, HostErr>
         requires { zone < self.old.geometry.zones }
         ensures result { result ≡ put_gives self.old [] }
@@ -152,8 +152,8 @@ impl<L: Link> Host<L> {
         self.send(slba, RESET, false)
     }
 
-    /// Puts a report of one zone at the ring's back, of 128 bytes. The answers are those of
-    /// `open_window`.
+    /// Puts a report of one zone at the ring's back, of 128 bytes. Returns what `open_window`
+    /// returns.
     pub fn report(&mut self, zone: u32) -> Result<u16, HostErr>
         requires { zone < self.old.geometry.zones }
         ensures result { result ≡ put_gives self.old [] }

@@ -16,7 +16,7 @@ use sqe_codec::Sqe;
 use zns_io::Bytes;
 use zone_model::Act;
 
-// Puts an act back to the front of a ring that it came from.
+// Puts an act back at the front of the ring that it came from.
 fn put_back(ring: &mut HeapCircularBuffer<Act>, queue: u16, sqe: Sqe, payload: Bytes)
     requires { length ring.old.items < ring.old.capacity }
     ensures items { ring.new.items ≡ act_of queue sqe payload ∷ ring.old.items }
@@ -34,13 +34,13 @@ fn put_back(ring: &mut HeapCircularBuffer<Act>, queue: u16, sqe: Sqe, payload: B
 }
 
 impl<L: Link> Host<L> {
-    /// Sends the oldest command, once. Answers what the drive gave, with the bytes that the command
-    /// read at the start of `out`, which has room for 128; or nothing where no command waits.
+    /// Sends the oldest command once. Returns what the drive gave, with the bytes that the command
+    /// read at the start of `out`, which has room for 128; or `None` if no command waits.
     ///
-    /// Where the link fails, the command stays the oldest, and the zone that it is about is
+    /// If the link fails, the command stays the oldest, and the zone that it is about becomes
     /// Unknown. A torn or refused command leaves the ring; a torn one makes its zone Unknown, and a
-    /// refused one leaves the shadow as it was. Any other changes its zone's shadow as the drive
-    /// changes the zone.
+    /// refused one doesn't change the shadow. Any other command changes its zone's shadow as the
+    /// drive changes the zone.
     pub fn pump(&mut self, out: &mut [u8]) -> Result<Option<Done>, HostErr>
         requires room { 128 ≤ length out.old }
 

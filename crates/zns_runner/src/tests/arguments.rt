@@ -34,7 +34,7 @@ impl Env for Arguments<'_> {
     }
 }
 
-// A word that isn't text means nothing, alone and after one that does.
+// A word that isn't text means nothing, alone or after one that does.
 #[test]
 fn words_that_are_no_text(rt: HostRuntime) -> Result<(), Fail> {
     let alloc = rt.alloc();

@@ -94,7 +94,7 @@ const BUSY: Drive = Drive {
     ..RANDOM
 };
 
-// Appends of one block to zone 0, so many.
+// `count` Appends of one block to zone 0.
 fn push_appends(file: &mut Vec<u8>, count: u16) -> Result<(), Fail> {
     for cid in 0..count {
         push(file, &BUSY, cid, Append(0, 1, 0x11))?;
@@ -105,7 +105,7 @@ fn push_appends(file: &mut Vec<u8>, count: u16) -> Result<(), Fail> {
 // The zone that is written through a random write area.
 const ZONE_8: u64 = 16_384;
 
-// Four blocks are written twice and committed, and the zone is looked at.
+// Writes four blocks twice, commits them, and reports on the zone.
 fn push_step(file: &mut Vec<u8>, step: u16) -> Result<(), Fail> {
     let lba = ZONE_8 + 4 * u64::from(step);
     push_on(file, &BUSY, 2, step, Write(lba, 4, 0x22))?;
@@ -143,7 +143,7 @@ pub fn busy_session(alloc: Global) -> Result<Vec<u8>, Fail> {
     Ok(file)
 }
 
-// What 2,000 replies have: entries, those among them of queue 1, and bytes that are read.
+// What the replies have: entries, those of them on queue 1, and bytes that are read.
 #[derive(Clone, Copy)]
 struct Tally {
     posted: u32,
@@ -151,7 +151,8 @@ struct Tally {
     read: u32,
 }
 
-// A tally with one more entry, if there is one, which is of Success and has the right phase.
+// The tally with one more entry, if there is one, which must be of Success and have the right
+// phase.
 fn with_entry(rt: &impl Abort, tally: Tally, entries: &[u8]) -> Tally {
     if entries.is_empty() {
         return tally;

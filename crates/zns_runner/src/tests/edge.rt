@@ -31,8 +31,8 @@ impl Read for Tape<'_> {
     }
 }
 
-// What a program has around it: its arguments, and places for its output and for what is said, of
-// which the bytes are counted. The first write may fail.
+// The surroundings of a program: its arguments, its output, and what it reports. Only the bytes of
+// the last two are counted. The first write may fail.
 #[derive(Drop)]
 struct Around<'a> {
     alloc: Global,
@@ -88,8 +88,8 @@ impl Eprint for Around<'_> {
     }
 }
 
-// A run ends with the number of its status and says its line. A read or a write that fails is told,
-// though the next one would not fail.
+// A run ends with the number of its status and reports its line. A read or write that fails is
+// reported, even if the next one would succeed.
 #[test]
 fn each_run_ends_with_its_number_and_line(rt: HostRuntime) -> Result<(), Fail> {
     let alloc = rt.alloc();

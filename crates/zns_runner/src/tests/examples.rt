@@ -11,8 +11,8 @@ use std::alloc::Global;
 use std::process::Abort;
 use std::test::Fail;
 
-// Holds that the session of these commands, each with its queue, is the one that the first digest
-// names, and its result the one that the second names. `examples/SHA256SUMS` has the same digests.
+// Checks that the session of these commands, each with its queue, has the first digest, and its
+// result the second. `examples/SHA256SUMS` has the same digests.
 fn hold(
     rt: &impl Abort,
     alloc: Global,

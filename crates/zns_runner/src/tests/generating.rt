@@ -50,7 +50,8 @@ fn acts_of_every_kind(rt: HostRuntime) -> Result<(), Fail> {
     Ok(())
 }
 
-// How `gen` ends with these words after it, what it writes, and how many bytes of an input are left.
+// How `gen` ends with these words after it, what it writes, and how many bytes of the input are
+// left.
 fn run_gen(alloc: Global, texts: &[&str]) -> Result<(Status, Vec<u8>, usize), Fail> {
     let mut source = SureSource::new(Bytes::from_vec(one_write(alloc)?), 100);
     let mut sink = SureSink::new(alloc, 1_000, 10)?;
@@ -64,7 +65,7 @@ fn run_gen(alloc: Global, texts: &[&str]) -> Result<(Status, Vec<u8>, usize), Fa
     Ok((status, out, left.as_slice().len()))
 }
 
-// The numbers in these summaries are those that another program gives.
+// The numbers in these summaries come from another program.
 #[test]
 fn summaries(rt: HostRuntime) -> Result<(), Fail> {
     let alloc = rt.alloc();
@@ -103,7 +104,7 @@ fn many_commands_give_the_same_twice(rt: HostRuntime) -> Result<(), Fail> {
     Ok(())
 }
 
-// Too many commands are told before all else, and words that are no numbers of 64 bits mean nothing.
+// Too many commands are reported first of all, and words that aren't 64-bit numbers mean nothing.
 #[test]
 fn words_after_gen(rt: HostRuntime) -> Result<(), Fail> {
     let alloc = rt.alloc();

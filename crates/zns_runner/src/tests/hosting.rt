@@ -4,7 +4,7 @@ use crate::status::Status;
 use session_file::Reason;
 use std::test::Fail;
 
-// Something is wrong with a line or the header at an offset.
+// The status for an error in a line or the header at an offset.
 fn bad(reason: Reason, offset: u64) -> Status {
     Status::BadFile { reason, offset }
 }

@@ -35,7 +35,7 @@ fn answer_to(queue: u8, opcode: u8) -> (u32, u16, usize) {
     }
 }
 
-// Compares the replies to all opcodes on a queue, and gives how many entries there are.
+// Compares the replies to all opcodes on a queue, and returns the number of entries.
 fn compare_all(rt: &impl Abort, queue: u8, replies: &[u8]) -> u32 {
     let mut posted = 0u32;
     let mut rest = replies;

@@ -93,7 +93,7 @@ fn each_front_of_a_session_is_short(rt: HostRuntime) -> Result<(), Fail> {
     Ok(())
 }
 
-// Reads of 65,536 blocks, so many.
+// `count` Reads of 65,536 blocks.
 fn great_reads(alloc: Global, count: u8) -> Result<Vec<u8>, Fail> {
     let mut file = header(alloc, &PLAIN, u32::from(count))?;
     for cid in 0..count {
@@ -105,7 +105,7 @@ fn great_reads(alloc: Global, count: u8) -> Result<Vec<u8>, Fail> {
     Ok(file)
 }
 
-// The commands of a session ask for 2^27 bytes at most, also where each is refused.
+// The commands of a session ask for at most 2^27 bytes, even if each is refused.
 #[test]
 fn sessions_ask_for_so_much_at_most(rt: HostRuntime) -> Result<(), Fail> {
     let alloc = rt.alloc();

@@ -17,13 +17,13 @@ pub enum Answer<'a> {
     Refused(u16),
     // Success, and blocks each of which is full of one byte
     Blocks(&'a [u8]),
-    // Success, and so many bytes: these at their places, and zeros elsewhere
+    // Success, and this many bytes: these at their places, and zeros elsewhere
     Bytes(usize, &'a [(usize, &'a [u8])]),
     // entries, by all their bytes; nothing is read
     Entries(&'a [u8]),
 }
 
-// Statuses: the code, the type from bit 8 on, and in bit 14 that a retry is of no use.
+// Statuses: the code, the type from bit 8 on, and in bit 14 that a retry is useless.
 pub const INVALID_OPCODE: u16 = 0x4001;
 
 pub const INVALID_FIELD: u16 = 0x4002;
@@ -194,7 +194,7 @@ fn compare_entries(rt: &impl Abort, shows: &str, cid: u16, answer: Answer<'_>, e
     }
 }
 
-// Compares a row's replies with those that these bytes begin with, and gives what comes after.
+// Compares a row's replies with those that these bytes begin with. Returns what comes after.
 fn compare_replies<'a>(
     rt: &impl Abort,
     alloc: Global,
@@ -226,7 +226,7 @@ fn compare_zones(
     Ok(())
 }
 
-// Serves a row's session, and compares all that it gives.
+// Serves a row's session, and compares everything that it gives.
 fn compare(rt: &impl Abort, alloc: Global, row: &Row<'_>) -> Result<(), Fail> {
     let out = output(alloc, session(alloc, row)?)?;
     let wanted = front(alloc, row)?;

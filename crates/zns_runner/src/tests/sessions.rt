@@ -19,7 +19,7 @@ pub struct Drive {
     pub depth: u8,
 }
 
-// Four zones of 64 blocks, 48 of which can be written, without limits and random write areas.
+// Four zones of 64 blocks, 48 of which can be written, with no limits or random write areas.
 pub const PLAIN: Drive = Drive {
     block_exp: 9,
     mdts: 0,
@@ -36,7 +36,7 @@ pub const PLAIN: Drive = Drive {
     depth: 64,
 };
 
-// The same with three active zones at most, two of which are opened.
+// The same with at most three active zones, two of which may be open.
 pub const LIMITED: Drive = Drive {
     active_limit: 3,
     open_limit: 2,
@@ -70,7 +70,7 @@ pub enum Ask {
     FlushTo(u64),
     // an action with Select All, and an LBA that no zone has
     All(u8),
-    // a report: where it begins, its bytes, the filter, and whether it counts what it gives alone
+    // a report: where it begins, its bytes, the filter, and whether it counts only what it returns
     Receive(u64, u32, u8, bool),
     Identify(u8, u8),
     // the bytes; the second keeps the log
@@ -146,7 +146,7 @@ fn send(place: u64, action: u16) -> Record {
     }
 }
 
-// So many bytes, as dwords less one.
+// `bytes` as dwords, less one.
 fn dwords(bytes: u32) -> u32 {
     (bytes / 4).saturating_sub(1)
 }
@@ -217,7 +217,7 @@ pub fn header(alloc: Global, drive: &Drive, commands: u32) -> Result<Vec<u8>, Fa
     Ok(file)
 }
 
-// One byte, so many times.
+// Appends `byte` `len` times.
 pub fn fill(bytes: &mut Vec<u8>, len: u32, byte: u8) -> Result<(), Fail> {
     for _ in 0..len {
         bytes.push(byte)?;
@@ -225,7 +225,7 @@ pub fn fill(bytes: &mut Vec<u8>, len: u32, byte: u8) -> Result<(), Fail> {
     Ok(())
 }
 
-// The record of a command with an identifier, on a queue.
+// Appends the record of a command with an identifier, on a queue.
 pub fn push_on(
     file: &mut Vec<u8>,
     drive: &Drive,
@@ -248,7 +248,7 @@ pub fn push_on(
     fill(file, payload, record.byte)
 }
 
-// The record of a command on its own queue.
+// Appends the record of a command on its own queue.
 pub fn push(file: &mut Vec<u8>, drive: &Drive, cid: u16, ask: Ask) -> Result<(), Fail> {
     push_on(file, drive, queue_of(ask), cid, ask)
 }

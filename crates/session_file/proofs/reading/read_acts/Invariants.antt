@@ -4,7 +4,7 @@ use Rattle.session_file.specs.Places.{acts_from, end_from}
 use Rattle.session_file.specs.FileRules.{records_rows}
 use Rattle.session_file.proofs.reading.read_acts.Given as goal
 
--- the records so far and those that are left
+-- the records read so far, and those that are left
 abbrev pub invariant-loop-number : goal.invariant-loop-number
 invariant-loop-number l = record {
   acts : l.acts.acts ++ acts_from (l.commands - l._number) l.progress.at l.bytes ≡ acts_from l.commands 64 l.bytes;

@@ -4,7 +4,6 @@ use Rattle.solo_drive.specs.Applying.{Serves}
 use Rattle.solo_drive.proofs.Entered.{posted-applies}
 use Rattle.solo_drive.proofs.applying.apply.Goals as goal
 
--- src/applying.rt:18:1
 pub returns-in-Some : goal.returns-in-Some
 returns-in-Some c =
     let g = c.args.g.now.fields in

@@ -8,7 +8,6 @@ use Rattle.solo_drive.proofs.Deciding.{counts-are, done-of, refused-of, widened-
 use Rattle.solo_drive.proofs.Told.{refused-done}
 use Rattle.solo_drive.proofs.serving.serve_aim.Goals as goal
 
--- src/serving.rt:64:29
 pub bounds-cells-0 : goal.bounds-cells-0
 bounds-cells-0 c =
     let g = c.args.g.now.fields in
@@ -17,7 +16,6 @@ bounds-cells-0 c =
     let m = asking.among-of g c.args.act.now c.args.aim cells book c.args.g.now.valid c.requires.passes c.requires.aim c.requires.within c.requires.parts in
     asking.some-cell g _ cells c.args.aim.zone m
 
--- src/serving.rt:64:18
 pub overflow_sub-place : goal.overflow_sub-place
 overflow_sub-place c =
     let g = c.args.g.now.fields in
@@ -27,7 +25,6 @@ overflow_sub-place c =
     let first = asking.first-zone g _ cells c.args.aim.zone c.zone.result c.index-cells-0.result m c.zone.ensures in
     omega (arith, first, m.low)
 
--- src/serving.rt:66:19
 pub bounds-cells-place : goal.bounds-cells-place
 bounds-cells-place c =
     let g = c.args.g.now.fields in
@@ -37,7 +34,6 @@ bounds-cells-place c =
     let first = asking.first-zone g _ cells c.args.aim.zone c.zone.result c.index-cells-0.result m c.zone.ensures in
     asking.place-within g _ cells c.args.aim.zone c.zone.result m first
 
--- src/serving.rt:68:11
 pub serve_deed-requires-clause-place : goal.serve_deed-requires-clause-place
 serve_deed-requires-clause-place c =
     let g = c.args.g.now.fields in
@@ -47,7 +43,6 @@ serve_deed-requires-clause-place c =
     let first = asking.first-zone g _ cells c.args.aim.zone c.zone.result c.index-cells-0.result m c.zone.ensures in
     asking.place-within g _ cells c.args.aim.zone c.zone.result m first
 
--- src/serving.rt:68:11
 pub serve_deed-requires-clause-of : goal.serve_deed-requires-clause-of
 serve_deed-requires-clause-of c =
     let g = c.args.g.now.fields in
@@ -56,7 +51,6 @@ serve_deed-requires-clause-of c =
     let m = asking.among-of g c.args.act.now c.args.aim cells book c.args.g.now.valid c.requires.passes c.requires.aim c.requires.within c.requires.parts in
     asking.each-is_of g book cells c.args.aim.zone c.args.g.now.valid m
 
--- src/serving.rt:68:11
 pub serve_deed-requires-clause-counted : goal.serve_deed-requires-clause-counted
 serve_deed-requires-clause-counted c =
     let g = c.args.g.now.fields in
@@ -65,12 +59,10 @@ serve_deed-requires-clause-counted c =
     let m = asking.among-of g c.args.act.now c.args.aim cells book c.args.g.now.valid c.requires.passes c.requires.aim c.requires.within c.requires.parts in
     asking.each-counted g book cells c.args.aim.zone c.args.g.now.valid (counts-are g c.args.act.now cells book c.requires.parts) m
 
--- src/serving.rt:68:11
 pub serve_deed-requires-clause-blocks : goal.serve_deed-requires-clause-blocks
 serve_deed-requires-clause-blocks c =
     subst (IsBlocksFor c.args.g.now.fields c.args.aim.deed) (sym c.as_slice-payload.ensures) (asking.blocks-of-aim c.args.g.now.fields c.args.act.now c.args.aim c.requires.aim c.requires.lengths.payload)
 
--- src/serving.rt:49:1
 pub returns-in-Done : goal.returns-in-Done
 returns-in-Done c =
     let g = c.args.g.now.fields in
@@ -96,7 +88,6 @@ returns-in-Done c =
     asking.noted g c.args.act.now c.args.aim cells c.serve_deed.new.cells book c.outcome_of.new.book c.serve_deed.new.limits c.outcome_of.result c.args.out.now c.pointer-pointer.result
     c.args.g.now.valid c.requires.aim c.requires.parts d there c.outcome_of.ensures
 
--- src/serving.rt:49:1
 pub returns-in-Refused : goal.returns-in-Refused
 returns-in-Refused c =
     let g = c.args.g.now.fields in
@@ -119,7 +110,6 @@ returns-in-Refused c =
     let same = refused-done g c.args.act.now c.in-Refused.code cells book c.args.out.now c.args.g.now.valid c.requires.parts d.code_is d.fails d.wide in
     asking.unchanged g c.args.act.now c.args.aim cells c.serve_deed.new.cells book c.serve_deed.new.limits c.refused.result c.args.out.now c.in-Refused.code d c.refused.ensures same
 
--- src/serving.rt:49:1
 pub returns-in-Widens : goal.returns-in-Widens
 returns-in-Widens c =
     let g = c.args.g.now.fields in

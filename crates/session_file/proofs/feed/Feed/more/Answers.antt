@@ -4,12 +4,12 @@ use Rattle.std.proofs.lemmas.List.{append_assoc, drop-append-le, take-append-le,
 use Rattle.session_file.proofs.Streams.{goes_on-more}
 use Rattle.session_file.proofs.feed.Feed.more.Goals as goal
 
--- the bytes that are held stay where room is made after them
+-- the held bytes stay when room is made after them
 kept_front : (bytes room zeros : List ℕ) (held size : ℕ) → room ≡ take size bytes ++ zeros → held ≡ length bytes → held ≤ size → take held room ≡ bytes
 kept_front bytes room zeros held size is long few =
     ap (take held) (is ∙ ap (λ (front : List ℕ). front ++ zeros) (take_all size bytes (omega (arith, long, few)))) ∙ take_at bytes zeros held (sym long)
 
--- what was read stands after the bytes that are held
+-- what was read follows the held bytes
 stands_after : (bytes room out rest more : List ℕ) (held count len at : ℕ) → held ≡ length bytes → take held room ≡ bytes → count ≤ length out → held + count ≤ len → at ≤ held
     → drop at (take (held + count) (take len ((take held room ++ (out ++ rest)) ++ more))) ≡ drop at bytes ++ take count out
 stands_after bytes room out rest more held count len at long kept few within low =
