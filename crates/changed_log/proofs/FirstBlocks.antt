@@ -1,4 +1,4 @@
--- How far the first blocks of zones are written, and the page that they make.
+-- How many of the zones' first blocks are written so far, and the page that they make.
 use Rattle.std.proofs.Common.{◌≡◌, ℕ, suc, ◌+◌, ◌*◌, ◌-◌, ◌≤◌, ◌<◌, List, [], ◌∷◌, ◌++◌, length, take, drop, refl, sym, ap, ◌∙◌, arith, append_assoc, length-append}
 use Rattle.std.specs.Prelude.{replicate}
 use Rattle.std.proofs.lemmas.List.{flat_map_more, length-take-le, take_at, drop_at, drop-drop, take-replicate, drop-replicate}
@@ -9,7 +9,7 @@ use Rattle.zns_types.specs.Geometry.{first}
 use Rattle.drive_rules.specs.Reports.{changed_page}
 use Rattle.changed_log.specs.Logs.{first_blocks}
 
--- the blocks of these zones are written from byte 8 on, and all other bytes are as they were
+-- the blocks of these zones are written from byte 8 on, and all other bytes are unchanged
 pub record Listed (g : GeometryFields) (zones old new : List ℕ) (at : ℕ) : Type 0 where
   pub place : at ≡ 8 + 8 * length zones
   pub bytes : new ≡ take 8 old ++ (first_blocks g zones ++ drop at old)
@@ -21,7 +21,7 @@ length-first_blocks g (z ∷ zs) = omega (arith, length-append (little_bytes 8 (
 first_blocks-push : (g : GeometryFields) (zones : List ℕ) (z : ℕ) → first_blocks g (zones ++ z ∷ []) ≡ first_blocks g zones ++ little_bytes 8 (first g z)
 first_blocks-push g zones z = sym (flat_map_more (λ y. little_bytes 8 (first g y)) [] zones z)
 
--- one zone more
+-- one more zone
 pub Listed-more : (g : GeometryFields) (zones old new : List ℕ) (at z : ℕ) → Listed g zones old new at → 8 ≤ length old
     → Listed g (zones ++ z ∷ []) old (take at new ++ (little_bytes 8 (first g z) ++ drop (at + 8) new)) (at + 8)
 Listed-more g zones old new at z so_far room =
@@ -41,7 +41,7 @@ Listed-more g zones old new at z so_far room =
 
 -- ---- the page
 
--- the first bytes of a number and zeros after it
+-- the first eight bytes of a number with zeros after it
 head_of : (n len : ℕ) → 8 ≤ len → take 8 (little_bytes 2 n ++ replicate (len - 2) 0) ≡ little_bytes 2 n ++ replicate 6 0
 head_of n len room = ap (λ (xs : List ℕ). little_bytes 2 n ++ xs) (take-replicate 6 (len - 2) 0 (omega arith))
 
@@ -51,7 +51,7 @@ tail_of n len k room =
     let left : len - 2 - (6 + k) ≡ len - 8 - k = omega arith in
     rw (past, drop-replicate {X = ℕ} (6 + k) (len - 2) 0, left) refl
 
--- where few enough zones are marked, their number and their first blocks are the page
+-- if few enough zones are marked, their number and their first blocks make the page
 pub page-listed : (g : GeometryFields) (zones out : List ℕ) (len : ℕ) → len ≡ 4096 → length zones ≤ 511
     → out ≡ take 8 (little_bytes 2 (length zones) ++ replicate (len - 2) 0) ++ (first_blocks g zones ++ drop (8 + 8 * length zones) (little_bytes 2 (length zones) ++ replicate (len - 2) 0))
     → out ≡ changed_page g zones

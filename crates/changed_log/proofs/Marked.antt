@@ -20,7 +20,7 @@ pub no_marks : (n : ℕ) → marked_zones (replicate n false) ≡ []
 unfolding marked_zones
 no_marks n = filter-none (λ z. get_or (replicate n false) z false) 0 (length (replicate n false)) (unmarked n)
 
--- a mark more is a zone more
+-- one more mark is one more zone
 pub one_mark : (marks : List Bool) (z : ℕ) → z < length marks → marked_zones (slice_set marks z true) ≡ with_zone z (marked_zones marks)
 unfolding marked_zones
 one_mark marks z within =
@@ -45,12 +45,12 @@ marked-here marks i is = filter-one_more (λ z. get_or marks z false) i ∙ rw i
 pub marked-elsewhere : (marks : List Bool) (i : ℕ) → get_or marks i false ≡ false → marked_below marks (i + 1) ≡ marked_below marks i
 marked-elsewhere marks i isnt = filter-one_more (λ z. get_or marks z false) i ∙ rw isnt (append-nil _)
 
--- no more than all
+-- no more zones are marked below a place than in all
 pub marked-fewer : (marks : List Bool) (i : ℕ) → i ≤ length marks → length (marked_below marks i) ≤ length (marked_zones marks)
 unfolding marked_zones
 marked-fewer marks i le = filter-fewer (λ z. get_or marks z false) i (length marks) le
 
--- what holds of all marked zones holds of one
+-- what holds of all marked zones holds of each one
 pub marked-holds : (P : ℕ → Type 0) (marks : List Bool) (i : ℕ) → i < length marks → get_or marks i false ≡ true → All P (marked_zones marks) → P i
 unfolding marked_zones
 marked-holds P marks i lt is all = All-contains P (marked_zones marks) i all (filter-has (λ z. get_or marks z false) i (length marks) lt is)

@@ -1,4 +1,4 @@
--- Numbers in a row, and those of them that pass a test.
+-- Consecutive numbers, and those of them that pass a test.
 use Rattle.std.proofs.Common.{◌≡◌, ℕ, zero, suc, ◌+◌, ◌-◌, ◌<◌, ◌≤◌, Bool, true, false, cond, List, [], ◌∷◌, ◌++◌, length, refl, sym, ap, ◌∙◌, inl, inr, arith, length-append}
 use Rattle.std.specs.List.{range_with_len, filter, Contains}
 use Rattle.std.specs.List.Sorted.{IsStrictlyIncreasing}
@@ -9,7 +9,7 @@ use Rattle.std.proofs.lemmas.Bool.{cases_Bool, cases_eq, lt-ltb}
 use Rattle.std.proofs.lemmas.Bool.Decides.{nat_tests}
 use Rattle.changed_log.specs.Logs.{with_zone}
 
--- so many numbers from one on, and so many more
+-- `m` numbers from `a` on, followed by the next `n`
 pub range_with_len-append : (a m n : ℕ) → range_with_len a m ++ range_with_len (a + m) n ≡ range_with_len a (m + n)
 range_with_len-append a zero n =
     let e : a + 0 ≡ a = omega arith in
@@ -20,7 +20,7 @@ range_with_len-append a (suc m) n =
     let f : a + suc m ≡ a + 1 + m = omega arith in
     rw (e, f) (ap (λ (xs : List ℕ). a ∷ xs) (range_with_len-append (a + 1) m n))
 
--- those that pass, up to a place and from there on
+-- the numbers that pass, split at a place
 pub filter-split : (p : ℕ → Bool) (i n : ℕ) → i ≤ n → filter p (range_with_len 0 n) ≡ filter p (range_with_len 0 i) ++ filter p (range_with_len i (n - i))
 filter-split p i n le =
     let whole : n ≡ i + (n - i) = omega arith in
@@ -30,13 +30,13 @@ filter-split p i n le =
     ∙ filter-append p (range_with_len 0 i) (range_with_len (0 + i) (n - i))
     ∙ ap (λ (k : ℕ). filter p (range_with_len 0 i) ++ filter p (range_with_len k (n - i))) start
 
--- one number more
+-- one more number
 pub filter-one_more : (p : ℕ → Bool) (i : ℕ) → filter p (range_with_len 0 (i + 1)) ≡ filter p (range_with_len 0 i) ++ cond (p i) (i ∷ []) []
 filter-one_more p i =
     let one : i + 1 - i ≡ 1 = omega arith in
     filter-split p i (i + 1) (omega arith) ∙ ap (λ (k : ℕ). filter p (range_with_len 0 i) ++ filter p (range_with_len i k)) one
 
--- no more pass up to a place than in all
+-- no more numbers pass up to a place than in all
 pub filter-fewer : (p : ℕ → Bool) (i n : ℕ) → i ≤ n → length (filter p (range_with_len 0 i)) ≤ length (filter p (range_with_len 0 n))
 filter-fewer p i n le =
     let whole = filter-split p i n le in
@@ -45,13 +45,13 @@ filter-fewer p i n le =
 from_here : (p : ℕ → Bool) (i n : ℕ) → p i ≡ true → Contains (filter p (range_with_len i (suc n))) i
 from_here p i n is = rw is (0, omega arith, refl)
 
--- a number that passes is among them
+-- a number that passes is in the list
 pub filter-has : (p : ℕ → Bool) (i n : ℕ) → i < n → p i ≡ true → Contains (filter p (range_with_len 0 n)) i
 filter-has p i n lt is =
     let some : n - i ≡ suc (n - i - 1) = omega arith in
     rw (filter-split p i n (omega arith), some) (Contains-append_right (filter p (range_with_len 0 i)) (filter p (range_with_len i (suc (n - i - 1)))) i (from_here p i (n - i - 1) is))
 
--- they rise
+-- the list rises
 pub filter-rises : (p : ℕ → Bool) (n : ℕ) → IsStrictlyIncreasing (filter p (range_with_len 0 n))
 filter-rises p n =
     IsStrictlyIncreasing-filter p (range_with_len 0 n)
@@ -59,14 +59,14 @@ filter-rises p n =
     let len = length-range_with_len 0 n in
     omega (arith, get_or-range_with_len 0 n k 0 (omega arith), get_or-range_with_len 0 n (k + 1) 0 (omega arith)))
 
--- none passes
+-- if none passes, the list is empty
 pub filter-none : (p : ℕ → Bool) (a n : ℕ) → ((i : ℕ) → p i ≡ false) → filter p (range_with_len a n) ≡ []
 filter-none p a zero fails = refl
 filter-none p a (suc n) fails = rw (fails a) (filter-none p (a + 1) n fails)
 
 -- ---- one more number that passes
 
--- a number below all of them stands in front
+-- a number below all of them goes to the front
 with_zone-front : (p : ℕ → Bool) (z a n : ℕ) → z < a → with_zone z (filter p (range_with_len a n)) ≡ z ∷ filter p (range_with_len a n)
 with_zone-front p z a zero lt = refl
 with_zone-front p z a (suc n) lt = elim (cases_Bool (p a)) [
@@ -74,18 +74,18 @@ with_zone-front p z a (suc n) lt = elim (cases_Bool (p a)) [
   | inr not ↦ rw not (with_zone-front p z (a + 1) n (omega arith))
 ]
 
--- tests that agree from a place on
+-- tests that agree from a place on pass the same numbers
 filter-agree_from : (p q : ℕ → Bool) (z a n : ℕ) → z < a → ((y : ℕ) → (y ≡ z → ⊥) → q y ≡ p y) → filter q (range_with_len a n) ≡ filter p (range_with_len a n)
 filter-agree_from p q z a zero lt other = refl
 filter-agree_from p q z a (suc n) lt other =
     let e : q a ≡ p a = other a (λ same. omega arith) in
     rw (e, filter-agree_from p q z (a + 1) n (omega arith) other) refl
 
--- where a list begins with the number, it stays
+-- a list that begins with the number stays as it is
 with_zone-here : (z : ℕ) (ys : List ℕ) → with_zone z (z ∷ ys) ≡ z ∷ ys
 with_zone-here z ys = grind (arith, nat_tests)
 
--- where it begins with a lower one, the number goes after that
+-- in a list that begins with a lower number, it goes after that
 with_zone-after : (z a : ℕ) (ys : List ℕ) → a < z → with_zone z (a ∷ ys) ≡ a ∷ with_zone z ys
 with_zone-after z a ys lt = grind (arith, nat_tests)
 
@@ -97,7 +97,7 @@ at_place p q z n is other =
       | inr wasnt ↦ rw (is, wasnt, rest) (sym (with_zone-front p z (z + 1) n (omega arith)))
     ]
 
--- Where one more number passes, it is put into the list of those that did.
+-- If one more number passes, it is put into the list of those that did.
 pub filter-with_zone : (p q : ℕ → Bool) (z a n : ℕ) → q z ≡ true → ((y : ℕ) → (y ≡ z → ⊥) → q y ≡ p y) → a ≤ z → z < a + n → filter q (range_with_len a n) ≡ with_zone z (filter p (range_with_len a n))
 filter-with_zone p q z a zero is other le lt = absurd (omega arith)
 filter-with_zone p q z a (suc n) is other le lt = elim (cases_eq a z) [

@@ -4,8 +4,8 @@ use Rattle.std.specs.Prelude.{◌≡◌, ℕ, ◌≤◌, Bool, true, false, not,
 use Rattle.changed_log.specs.declared.waited.Waited.{Waited}
 use Rattle.changed_log.specs.declared.waited.Waited.TheVariants as waited
 
--- Whether notices are enabled; whether an event was told since the changed zones were last read and cleared; whether one
--- is there to be told; and the numbers of the event requests that wait, the oldest first.
+-- Whether notices are enabled; whether an event was told since the changed zones were last read and cleared; whether one is still to be
+-- told; and the command identifiers of the waiting event requests, the oldest first.
 pub record Marks : Type 0 where
   pub enabled : Bool
   pub masked : Bool
@@ -16,20 +16,20 @@ pub record Marks : Type 0 where
 abbrev pub at_start : Marks
 at_start = record { enabled = false; masked = false; pending = false; waiting = [] }
 
--- What holds of the marks at any time: an event is there to be told only where none was told yet and no request waits
--- for it, and at most four requests wait.
+-- What always holds of the marks: an event is pending only if none was told yet and no request waits for it, and at most four requests
+-- wait.
 pub record IsSound (m : Marks) : Type 0 where
   pub unmasked : m.pending ≡ true → m.masked ≡ false
   pub unasked : m.pending ≡ true → m.waiting ≡ []
   pub few : length m.waiting ≤ 4
 
--- Set Features: bit 27 of the asynchronous event configuration alone (Base Specification 2.0, 5.27.1.8)
+-- Set Features: only bit 27 of the asynchronous event configuration (Base Specification 2.0, 5.27.1.8)
 abbrev pub with_enabled : Bool → Marks → Marks
 with_enabled on m = record m { enabled = on }
 
 -- ---- an event request
 
--- an event that is there to be told completes the request; else it waits, where fewer than four do
+-- a pending event completes the request; otherwise it waits, if fewer than four do
 abbrev pub told_to : Marks → Waited
 told_to m = if m.pending then waited.Fired else if nat_le 4 (length m.waiting) then waited.Limit else waited.Kept
 
@@ -41,20 +41,20 @@ after_request cid m =
 
 -- ---- an excursion that succeeded
 
--- an event of it is told now, or as soon as a request comes
+-- its event is told now, or as soon as a request comes
 abbrev pub is_told : Marks → Bool
 is_told m = m.enabled && not m.masked
 
--- the first of the requests, which has waited longest
+-- the first request, which has waited longest
 abbrev pub oldest : List ℕ → Option ℕ
 oldest [] = None
 oldest (cid ∷ rest) = Some cid
 
--- the request that it completes: the oldest that waits
+-- the request that it completes: the oldest one waiting
 abbrev pub fired_by : Marks → Option ℕ
 fired_by m = if is_told m then oldest m.waiting else None
 
--- the event goes to the oldest of the requests; where there is none, it is there to be told
+-- the event goes to the oldest request; if there is none, it becomes pending
 abbrev pub told : Marks → List ℕ → Marks
 told m [] = record m { pending = true }
 told m (cid ∷ rest) = record m { masked = true; pending = false; waiting = rest }

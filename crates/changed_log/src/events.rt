@@ -27,7 +27,7 @@ impl Model for Events {
 }
 
 impl Events {
-    /// The events of a new drive: not enabled, and nothing waits.
+    /// The events of a drive at its start: not enabled, with nothing waiting.
     pub fn new() -> Events
         ensures { result ≡ at_start }
     {
@@ -39,8 +39,8 @@ impl Events {
         }
     }
 
-    /// Enables events, or disables them: bit 27 of the feature Asynchronous Event Configuration. An
-    /// event that is pending stays pending.
+    /// Enables or disables events: bit 27 of the feature Asynchronous Event Configuration. A
+    /// pending event stays pending.
     pub fn enable(&mut self, on: bool)
         ensures marks { self.new ≡ with_enabled on self.old }
         ensures sound { IsSound self.new }
@@ -55,9 +55,9 @@ impl Events {
         self.enabled
     }
 
-    /// Takes an Asynchronous Event Request by its command identifier. An event that is pending
-    /// completes it, and further events are then masked. Otherwise it waits after the others,
-    /// unless four wait already; then nothing changes.
+    /// Takes an Asynchronous Event Request by its command identifier. A pending event completes it,
+    /// and masks further events. Otherwise the request waits after the others, unless four wait
+    /// already; then nothing changes.
     pub fn wait(&mut self, cid: u16) -> Waited
         ensures answer { result ≡ told_to self.old }
         ensures fired { (result ≡ Waited.Fired) ↔ (self.old.pending ≡ true) }
@@ -78,9 +78,9 @@ impl Events {
         }
     }
 
-    /// Notices an excursion that succeeded. If events are enabled and not masked, it completes the
-    /// oldest request that waits, returns its command identifier, and masks further events; if none
-    /// waits, an event is pending.
+    /// Takes note of an excursion that succeeded. If events are enabled and not masked, this
+    /// completes the oldest waiting request, returns its command identifier and masks further
+    /// events; if none waits, an event becomes pending.
     pub fn fire(&mut self) -> Option<u16>
         ensures answer { result ≡ fired_by self.old }
         ensures oldest { IfSome result (λ cid. self.old.waiting ≡ cid ∷ self.new.waiting) }
@@ -99,7 +99,7 @@ impl Events {
         }
     }
 
-    /// Takes a read of the log page that clears: nothing is masked or pending any more.
+    /// Takes note of a read that clears the log page: nothing is masked or pending any more.
     pub fn read_clear(&mut self)
         ensures marks { self.new ≡ after_read self.old }
         ensures sound { IsSound self.new }

@@ -1,4 +1,4 @@
-//! What a drive keeps of excursions: the log of changed zones, and the marks and requests of
+//! What a drive keeps about excursions: the log of changed zones, and the marks and requests of
 //! asynchronous events.
 #![tactic(auto)]
 

@@ -6,7 +6,7 @@ ghost use Rattle.changed_log.specs.Logs.{marked_zones, first_blocks};
 use byteorder::{ByteOrder, LittleEndian};
 use zns_types::Geometry;
 
-/// The number of zones that are marked.
+/// How many zones are marked.
 pub fn count(marks: &[bool]) -> usize
     ensures number { result ≡ length (marked_zones marks.now) }
     ensures most { result ≤ length marks.now }
@@ -20,7 +20,7 @@ pub fn count(marks: &[bool]) -> usize
     number
 }
 
-/// Writes a number in the first 2 bytes, and zeros in all others.
+/// Writes `number` into the first 2 bytes, and zeros into all others.
 pub fn put_number(out: &mut [u8], number: u16)
     requires { 2 ≤ length out.old }
     ensures { out.new ≡ little_bytes 2 number ++ replicate (length out.old - 2) 0 }
@@ -29,7 +29,7 @@ pub fn put_number(out: &mut [u8], number: u16)
     LittleEndian::write_u16(out, number);
 }
 
-// Writes a block in 8 bytes, and doesn't change the others.
+// Writes `block` into the 8 bytes from `at` on, and leaves all others.
 fn put_block(out: &mut [u8], at: usize, block: u64)
     requires { at + 8 ≤ length out.old }
     ensures { out.new ≡ take at out.old ++ (little_bytes 8 block ++ drop (at + 8) out.old) }
@@ -37,8 +37,8 @@ fn put_block(out: &mut [u8], at: usize, block: u64)
     out[at..at + 8].copy_from_slice(&block.to_le_bytes());
 }
 
-/// Writes from byte 8 on the first block of each marked zone, in rising order, 8 bytes each. The
-/// bytes before and after them don't change.
+/// Writes the first block of each marked zone, rising, 8 bytes each, from byte 8 on. Leaves the
+/// bytes before and after them.
 pub fn list_firsts(marks: &[bool], g: &Geometry, out: &mut [u8])
     requires few { length marks.now ≤ 4096 }
     requires zones { All (λ z. z < g.now.fields.zones) (marked_zones marks.now) }

@@ -8,7 +8,7 @@ use crate::listing::{count, list_firsts, put_number};
 use std::marker::Model;
 use zns_types::Geometry;
 
-/// The zones that an excursion changed since the log was last read and cleared (Zoned Namespace
+/// The zones that excursions changed since the log was last read and cleared (Zoned Namespace
 /// Command Set Specification 1.1, 4.1.4). Contracts see the rising list of their numbers, which are
 /// below 4,096.
 #[derive(Drop)]
@@ -35,7 +35,7 @@ impl ChangedLog {
         }
     }
 
-    /// Notes a zone, which may be noted already.
+    /// Adds a zone, which may be in the log already.
     pub fn note(&mut self, zone: u32)
         requires { zone < 4096 }
         ensures zones { self.new ≡ with_zone zone self.old }
@@ -44,10 +44,10 @@ impl ChangedLog {
         self.noted[zone as usize] = true;
     }
 
-    /// Writes the log page Changed Zone List, of 4,096 bytes: in bytes 0 and 1 the number of zones,
-    /// and from byte 8 on the first block of each, rising, 8 bytes each. With more than 511 zones
-    /// the number is FFFFh, and no block is given. The zones that were noted are zones of the
-    /// drive.
+    /// Writes the log page Changed Zone List, of 4,096 bytes. Bytes 0 and 1 hold the number of
+    /// zones, and the first block of each follows from byte 8 on, rising, 8 bytes each. With more
+    /// than 511 zones the number is FFFFh, and no block is given. All zones in the log must be
+    /// zones of the drive.
     pub fn page(&self, g: &Geometry, out: &mut [u8])
         requires len { length out.old ≡ 4096 }
         requires zones { All (λ z. z < g.now.fields.zones) self.now }
@@ -62,7 +62,7 @@ impl ChangedLog {
         }
     }
 
-    /// Forgets all zones, as a read that clears the log does.
+    /// Removes all zones, as a read that clears the log does.
     pub fn clear(&mut self)
         ensures { self.new ≡ [] }
     {

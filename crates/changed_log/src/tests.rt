@@ -6,7 +6,7 @@ use byteorder::{ByteOrder, LittleEndian};
 use std::test::Fail;
 use zns_types::{Geometry, GeometryFields};
 
-// 600 zones of so many blocks each.
+// 600 zones of `blocks` blocks each.
 fn zones_of(blocks: u64) -> GeometryFields
     ensures { result.zones ≡ 600 }
 {
@@ -28,7 +28,7 @@ fn zones_of(blocks: u64) -> GeometryFields
     }
 }
 
-// A log of the first zones, so many of them.
+// A log of the first `zones` zones.
 fn noted(zones: u32) -> ChangedLog
     requires few { zones ≤ 600 }
     ensures below { All (λ z. z < 600) result }
@@ -40,7 +40,7 @@ fn noted(zones: u32) -> ChangedLog
     log
 }
 
-// The page of a log, where zones have so many blocks.
+// The page of a log, where each zone has `blocks` blocks.
 fn page_of(log: &ChangedLog, blocks: u64) -> Result<[u8; 4096], Fail>
     requires below { All (λ z. z < 600) log.now }
 {

@@ -23,7 +23,7 @@ spells-entry_bytes c f = record {
   status = subst (λ status. SpellsStatus status c) (sym (field-from_bytes 12 4 (status_dword c) (entry_bytes c) (spells-status_dword c f).fits refl)) (spells-status_dword c f);
 }
 
--- a dword that spells the fields is the last dword of their entry
+-- a dword that spells the fields of an entry is its last dword
 status_dword-spelled : (status : ℕ) (c : Cqe) → SpellsStatus status c → status_dword c ≡ status
 status_dword-spelled status c s = grind (arith, nat_tests)
 

@@ -7,7 +7,7 @@ use Rattle.cqe_codec.specs.declared.cqe.Cqe.{Cqe}
 abbrev pub one : Bool → ℕ
 one b = if b then 1 else 0
 
--- the last dword: the command's number, the phase, the status code and its type, and whether not to retry
+-- the last dword: the command identifier, the phase, the status code and its type, and whether not to retry
 abbrev pub status_dword : Cqe → ℕ
 status_dword c = c.cid + 2 ^ 16 * one c.phase + 2 ^ 17 * c.code.sc + 2 ^ 25 * c.code.sct + 2 ^ 31 * one c.dnr
 
@@ -19,11 +19,11 @@ entry_bytes c = little_bytes 4 c.dw0 ++ little_bytes 4 c.dw1 ++ little_bytes 2 c
 abbrev pub retry_delay : ℕ → ℕ
 retry_delay status = bits 29 28 status
 
--- whether the controller has more to say of the status, which it never has here
+-- whether the controller has more to say about the status, which it never has here
 abbrev pub more : ℕ → Bool
 more status = bit 30 status
 
--- a bit is set that no entry here uses
+-- a bit that no entry here uses is set
 abbrev pub sets_unused : List ℕ → Bool
 sets_unused entry = not (retry_delay (dword 3 entry) == 0) || more (dword 3 entry)
 

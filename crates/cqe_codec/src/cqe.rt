@@ -9,13 +9,13 @@ pub struct Cqe {
     /// The second dword of the command's result.
     pub dw1: u32,
 
-    /// The submission queue's head.
+    /// The head of the submission queue.
     pub head: u16,
 
-    /// The submission queue.
+    /// The identifier of the submission queue.
     pub sqid: u16,
 
-    /// The number that the host gave the command.
+    /// The command identifier that the host gave the command.
     pub cid: u16,
 
     /// The phase tag.
@@ -24,6 +24,6 @@ pub struct Cqe {
     /// The status.
     pub code: Code,
 
-    /// Whether the command would be refused again.
+    /// Whether the command would be refused again if retried.
     pub dnr: bool,
 }

@@ -7,7 +7,7 @@ use crate::cqe_err::CqeErr;
 use byteorder::{ByteOrder, LittleEndian};
 use zns_types::Code;
 
-// The fields of an entry that leaves the reserved bits alone.
+// The fields of an entry that sets no reserved bits.
 fn fields_of(bytes: &[u8; 16]) -> Cqe
     requires { sets_unused bytes.now ≡ false }
     ensures spells { Spells bytes.now result }
@@ -30,8 +30,8 @@ fn fields_of(bytes: &[u8; 16]) -> Cqe
     }
 }
 
-/// The fields of an entry. One that sets the Command Retry Delay or the More bit is refused, with
-/// its last byte.
+/// The fields of an entry. An entry that sets the Command Retry Delay or the More bit is refused,
+/// and the error holds its last byte.
 pub fn read(bytes: &[u8; 16]) -> Result<Cqe, CqeErr>
     ensures spells { IfOk result (Spells bytes.now) }
     ensures only { (c : Cqe) → Spells bytes.now c → result ≡ Ok c }

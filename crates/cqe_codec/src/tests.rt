@@ -2,8 +2,8 @@ use crate::{Cqe, CqeErr, read, write};
 use std::test::Fail;
 use zns_types::Code;
 
-// An entry of a queue that is refused for good, one that may be tried again, and one with every
-// number its own.
+// An entry that is refused for good, one that may be retried, and one in which every number is
+// different.
 const ENTRIES: [([u8; 16], Cqe); 3] = [
     (
         [

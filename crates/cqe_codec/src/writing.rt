@@ -18,7 +18,7 @@ fn status_of(cqe: Cqe) -> u32
     status + (u32::from(cqe.dnr) << 31)
 }
 
-// The fields of an entry, one after the other.
+// An entry of these fields, one after another.
 fn entry(dw0: u32, dw1: u32, head: u16, sqid: u16, status: u32) -> [u8; 16]
     ensures { result
         ≡ little_bytes 4 dw0 ++ little_bytes 4 dw1 ++ little_bytes 2 head

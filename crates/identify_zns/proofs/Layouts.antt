@@ -1,16 +1,16 @@
--- Fields that are written into zeros, in order, make the page.
+-- Fields written into zeros, in order, make the page.
 use Rattle.std.proofs.Common.{◌≡◌, ℕ, ◌+◌, ◌-◌, ◌≤◌, List, [], ◌∷◌, ◌++◌, length, take, drop, refl, sym, ap, subst, ◌∙◌, arith, length-append}
 use Rattle.std.specs.Prelude.{replicate}
 use Rattle.std.proofs.Math.Seq.{take-append-add}
 use Rattle.std.proofs.lemmas.List.{append_assoc, length-replicate, take-replicate, drop-replicate, drop-drop, drop_at}
 use Rattle.identify_zns.specs.Layout.{PageField, page, page_from, overwritten}
 
--- bytes with these fields written, one after the other
+-- bytes with these fields written, one after another
 abbrev pub written : List ℕ → List PageField → List ℕ
 written bytes [] = bytes
 written bytes (f ∷ fs) = written (overwritten bytes f.place f.bytes) fs
 
--- the fields stand in order from a place on, within a page
+-- the fields stand in order, from a place on and within a page
 abbrev pub AreLaid : ℕ → List PageField → Type 0
 AreLaid here [] = Unit {0}
 AreLaid here (f ∷ fs) = (here ≤ f.place) × (f.place + length f.bytes ≤ 4096) × AreLaid (f.place + length f.bytes) fs
@@ -25,7 +25,7 @@ drop_past front back place le =
     let split : place ≡ length front + (place - length front) = omega arith in
     ap (λ n. drop n (front ++ back)) split ∙ sym (drop-drop (place - length front) (length front) (front ++ back)) ∙ ap (drop (place - length front)) (drop_at front back (length front) refl)
 
--- one field, written into the zeros after what stands
+-- one field, written into the zeros after what stands there
 overwritten-zeros : (front bytes : List ℕ) (here place : ℕ) → length front ≡ here → here ≤ place → place + length bytes ≤ 4096
     → overwritten (front ++ replicate (4096 - here) 0) place bytes ≡ (front ++ (replicate (place - here) 0 ++ bytes)) ++ replicate (4096 - (place + length bytes)) 0
 unfolding overwritten

@@ -1,4 +1,4 @@
--- Fields of a page that is read from a place on.
+-- Fields of a page that is read from some place on.
 use Rattle.std.proofs.Common.{◌≡◌, ℕ, ◌-◌, ◌%◌, ◌/◌, eqb, List, length, take, drop, get_or, ap, ◌∙◌, arith}
 use Rattle.std.proofs.lemmas.List.{take_rest, get_or-drop}
 use Rattle.byteorder.specs.Endian.{little_number}

@@ -1,4 +1,4 @@
--- What is read in the page of the zoned namespace is what the drive is.
+-- What is read in the zoned namespace's page is what the drive is.
 use Rattle.std.proofs.Common.{◌≡◌, ℕ, ◌+◌, ◌*◌, ◌<◌, ◌^◌, Bool, true, false, List, ◌++◌, drop, refl, ap, ◌∙◌, arith}
 use Rattle.std.proofs.lemmas.Bool.Decides.{nat_tests}
 use Rattle.byteorder.specs.Endian.{little_number, little_bytes}
@@ -9,11 +9,11 @@ use Rattle.identify_zns.specs.Layout.{page}
 use Rattle.identify_zns.specs.Pages.{one, zero_based, has_windows, characteristics, zoned_namespace_fields, zoned_page, shown}
 use Rattle.identify_zns.proofs.Layouts.{AreLaid, stand-page}
 
--- the field of a number that stands at a place is the number
+-- if a number stands at a place, the field there is the number
 field-stands : (place width n : ℕ) (bytes rest : List ℕ) → n < 256 ^ width → drop place bytes ≡ little_bytes width n ++ rest → field place width bytes ≡ n
 field-stands place width n bytes rest fits stands = ap (little_number width) stands ∙ little_number-reads_back width n rest fits
 
--- of two bits the lowest is the first
+-- the lowest of two bits is the first
 two_bits : (a b : Bool) → (one a + 2 * one b < 65536) × (bit 0 (one a + 2 * one b) ≡ a)
 two_bits true true = (omega arith, refl)
 two_bits true false = (omega arith, refl)

@@ -1,4 +1,4 @@
--- Pages of 4,096 bytes, by the fields that stand in them.
+-- Pages of 4,096 bytes, given by the fields in them.
 use Rattle.std.specs.Prelude.{ℕ, ◌+◌, ◌-◌, List, [], ◌∷◌, ◌++◌, length, take, drop, replicate}
 use Rattle.byteorder.specs.Endian.{little_bytes}
 
@@ -7,7 +7,7 @@ pub record PageField : Type 0 where
   pub place : ℕ
   pub bytes : List ℕ
 
--- a field of so many bytes that holds a number, the lowest byte first
+-- a field at a place, of a width in bytes, that holds a number, the lowest byte first
 abbrev pub number_at : ℕ → ℕ → ℕ → PageField
 number_at place width n = record { place = place; bytes = little_bytes width n }
 
@@ -15,15 +15,15 @@ number_at place width n = record { place = place; bytes = little_bytes width n }
 abbrev pub byte_at : ℕ → ℕ → PageField
 byte_at place byte = record { place = place; bytes = byte ∷ [] }
 
--- a page from a place on: zeros up to each field, and zeros after the last
+-- a page from a place on: zeros up to each field and after the last
 abbrev pub page_from : ℕ → List PageField → List ℕ
 page_from here [] = replicate (4096 - here) 0
 page_from here (f ∷ fs) = replicate (f.place - here) 0 ++ (f.bytes ++ page_from (f.place + length f.bytes) fs)
 
--- the page with these fields, which stand in order
+-- the page with these fields, which are in order
 unfoldable pub page : List PageField → List ℕ
 page fields = page_from 0 fields
 
--- bytes with others in their place
+-- bytes with some of them, from a place on, replaced by others
 unfoldable pub overwritten : List ℕ → ℕ → List ℕ → List ℕ
 overwritten old place bytes = take place old ++ (bytes ++ drop (place + length bytes) old)

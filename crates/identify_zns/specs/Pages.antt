@@ -14,15 +14,15 @@ one b = if b then 1 else 0
 abbrev pub has_windows : GeometryFields → Bool
 has_windows g = not (g.windows == 0)
 
--- a limit as Identify shows it: less one, and all ones where there is none
+-- a limit as Identify shows it: less one, or all ones if there is none
 abbrev pub zero_based : ℕ → ℕ
 zero_based limit = if limit == 0 then 2 ^ 32 - 1 else limit - 1
 
--- optional characteristics of a zoned namespace: reads may cross zones; there are random write areas
+-- optional characteristics of a zoned namespace: whether reads may cross zones, and whether there are random write areas
 abbrev pub characteristics : GeometryFields → ℕ
 characteristics g = one (bit 0 g.flags) + 2 * one (has_windows g)
 
--- random write areas can be committed by a command, where there are any
+-- whether a command can commit random write areas, if there are any
 abbrev pub capabilities : GeometryFields → ℕ
 capabilities g = one (has_windows g)
 

@@ -47,14 +47,14 @@ fn zero_based(limit: u32) -> u32
     limit.wrapping_sub(1)
 }
 
-// Whether reads may cross zones, and whether there are random write areas.
+// The bits that say whether reads may cross zones, and whether there are random write areas.
 fn characteristics(fields: &GeometryFields) -> u16
     ensures { result ≡ characteristics fields.now }
 {
     u16::from(fields.flags % 2 == 1) + 2 * u16::from(fields.windows != 0)
 }
 
-// Whether a command can commit random write areas.
+// The bit that says whether a command can commit random write areas.
 fn capabilities(fields: &GeometryFields) -> u8
     ensures { result ≡ capabilities fields.now }
 {
@@ -85,14 +85,14 @@ fn fill_zoned_controller(g: &Geometry, out: &mut [u8])
     put(out, 0, &[g.fields().zasl]);
 }
 
-/// Writes the page of a structure (CNS) and a command set (CSI).
+/// Writes the page of a structure (CNS) and a command set (CSI) into `out`.
 pub fn fill(cns: u8, csi: u8, g: &Geometry, out: &mut [u8]) -> Result<(), IdErr>
     requires { length out.old ≡ 4096 }
     ensures filled { OnOk result (page_of cns csi g.now.fields ≡ Some out.new) }
     ensures unknown { (result ≡ Err IdErr.Unknown) ↔ (page_of cns csi g.now.fields ≡ None) }
     ensures kept { OnErr result (out.new ≡ out.old) }
 
-    // What a host reads in the page of the zoned namespace is what the drive is.
+    // What a host reads in the zoned namespace's page is what the drive is.
     ensures shown { cns ≡ 0x05 → csi ≡ 0x02 → zoned_page out.new ≡ shown g.now.fields }
 {
     match (cns, csi) {

@@ -8,7 +8,7 @@ pub fn clear(out: &mut [u8])
     out.fill(0);
 }
 
-/// Puts bytes at a place.
+/// Copies `bytes` into `out` from byte `place` on.
 #[tactic(auto, unfolding(crate::specs::Layout::overwritten))]
 pub fn put(out: &mut [u8], place: usize, bytes: &[u8])
     requires { place + length bytes.now ≤ length out.old }

@@ -1,4 +1,4 @@
-//! The pages that Identify gives of a zoned drive.
+//! The pages that Identify gives for a zoned drive.
 #![tactic(auto)]
 
 mod filling;

@@ -6,28 +6,28 @@ use byteorder::{ByteOrder, LittleEndian};
 /// What the page of a zoned namespace says.
 #[derive(Clone, Copy, Debug, PartialEq, Eq)]
 pub struct ZonedPage {
-    /// A Read may cross the boundary of two zones.
+    /// Whether a Read may cross the boundary between two zones.
     pub cross: bool,
 
-    /// The most active zones, less one; all ones is no limit.
+    /// The most zones that may be active, less one; all ones means no limit.
     pub mar: u32,
 
-    /// The most opened zones, less one; all ones is no limit.
+    /// The most zones that may be opened, less one; all ones means no limit.
     pub mor: u32,
 
-    /// The most zones with a random write area.
+    /// The most zones that may have a random write area.
     pub windows: u32,
 
-    /// The blocks that a random write area commits at a time.
+    /// The number of blocks that a random write area commits at a time.
     pub granule: u16,
 
-    /// The blocks of a random write area.
+    /// The number of blocks in a random write area.
     pub window: u16,
 
-    /// Random write areas can be committed by a command.
+    /// Whether a command can commit random write areas.
     pub explicit: bool,
 
-    /// The blocks from the start of a zone to the start of the next.
+    /// The number of blocks from the start of a zone to the start of the next.
     pub zone_size: u64,
 }
 

@@ -1,4 +1,4 @@
--- The first rule that a result breaks, where its bytes stand behind others.
+-- The first rule that a result breaks, where other bytes come before its own.
 use Rattle.std.proofs.Common.{◌≡◌, ℕ, zero, suc, ◌+◌, ◌*◌, ◌<◌, ◌≤◌, ⊎_elim, true, false, List, [], ◌++◌, map, length, take, drop, Some, refl, sym, ap, subst, ◌∙◌, arith}
 use Rattle.std.proofs.Math.Seq.{drop-append-add}
 use Rattle.std.proofs.lemmas.Bool.{cases_lt}
@@ -19,13 +19,13 @@ use Rattle.session_file.specs.Faults.{FirstBroken, IsFirstOf, later}
 use Rattle.session_file.specs.Orders.{order_rows, order_front_rows, result_rows, IsFirstAfter}
 use Rattle.session_file.proofs.RowSplits.{first_holding-answers}
 
--- a rule of bytes, where they have so many others before them
+-- a rule, where this many other bytes come before
 abbrev moved : ℕ → Row FileErr → Row FileErr
 moved before r = when r.holds (later before r.answer)
 
 -- ---- bytes that are long enough for the order
 
--- what stands at a place of bytes stands there too where others are before them and behind them
+-- a place of the bytes has the same bytes where others come before and after them
 drop-within : (front bytes more : List ℕ) (at : ℕ) → at ≤ length bytes → drop (length front + at) (front ++ (bytes ++ more)) ≡ drop at bytes ++ more
 drop-within front bytes more at h = drop-append-add front (bytes ++ more) at ∙ drop-append-le at bytes more h
 
@@ -47,7 +47,7 @@ order_rows-within (suc n) at front bytes more acts h =
     let next : length front + at + 2 ≡ length front + (at + 2) = omega arith in
     rw (field-within front bytes more at 2 (omega arith), next, order_rows-within n (at + 2) front bytes more (rest_of (field at 2 bytes) acts) (omega arith)) refl
 
--- the other rules of the front, before any others
+-- the rules of the front, with any others after them
 front_rows-within : (n : ℕ) (front bytes more : List ℕ) (rest : List (Row FileErr)) → 12 + 2 * n ≤ length bytes → first_holding (order_front_rows (front ++ (bytes ++ more)) (length front) n ++ map (moved (length front)) rest) ≡ first_holding (map (moved (length front)) (order_front_rows bytes 0 n ++ rest))
 unfolding order_front_rows
 front_rows-within n front bytes more rest h =
@@ -85,7 +85,7 @@ broken-after front bytes more acts e none h = ⊎_elim short long (cases_lt (len
     long : 12 + 2 * length acts ≤ length bytes → FirstBroken (result_rows (front ++ (bytes ++ more)) (length front) acts) (later (length front) e)
     long enough = result_rows-within front bytes more acts enough ∙ first_holding-answers (later (length front)) (result_rows bytes 0 acts) e h
 
--- the error is that of the bytes alone, moved
+-- the error is that of the bytes alone, with its offset moved
 pub first_after : (before : ℕ) (bytes : List ℕ) (acts : List Act) (e : FileErr) → IsFirstOf (result_rows bytes 0 acts) e → IsFirstAfter before bytes acts (later before e)
 first_after before bytes acts NoMemory h = λ front more place none. tt
 first_after before bytes acts (Bad r offset) h = λ front more place none. subst (λ (k : ℕ). FirstBroken (result_rows (front ++ (bytes ++ more)) k acts) (later k (Bad r offset))) place (broken-after front bytes more acts (Bad r offset) none h)

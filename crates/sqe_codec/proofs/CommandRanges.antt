@@ -1,4 +1,4 @@
--- The command that bytes spell has its fields in their ranges.
+-- The fields of the command that bytes spell are in range.
 use Rattle.std.proofs.Common.{ℕ, ◌+◌, ◌*◌, ◌^◌, ◌<◌, Bool, true, false, cond, ◌==◌, List, drop, slice_index, arith}
 use Rattle.std.proofs.lemmas.List.{get_or-drop}
 use Rattle.byteorder.specs.Numbers.{little_from-lt}
@@ -8,7 +8,7 @@ use Rattle.sqe_codec.specs.declared.cmd.Cmd.TheVariants as cmd
 use Rattle.sqe_codec.specs.Commands.{command, io_command, admin_command, opcode_of, nsid_of, blocks_of, log_bytes_of}
 use Rattle.sqe_codec.specs.Ranges.{HasRanges}
 
--- of seven commands the first whose test holds, or the last
+-- the first of seven commands whose test holds, or else the last
 choice : (a b c d f g : Bool) (t u v w x y z : Cmd) → HasRanges t → HasRanges u → HasRanges v → HasRanges w → HasRanges x → HasRanges y → HasRanges z
     → HasRanges (cond a t (cond b u (cond c v (cond d w (cond f x (cond g y z))))))
 choice true b c d f g t u v w x y z t-fits u-fits v-fits w-fits x-fits y-fits z-fits = t-fits

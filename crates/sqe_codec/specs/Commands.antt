@@ -10,18 +10,18 @@ use Rattle.sqe_codec.specs.declared.cmd.Cmd.TheVariants as cmd
 abbrev pub opcode_of : List ℕ → ℕ
 opcode_of entry = bits 7 0 (dword 0 entry)
 
--- the number that the host gave the entry
+-- the command identifier that the host gave the entry
 abbrev pub cid_of : List ℕ → ℕ
 cid_of entry = bits 31 16 (dword 0 entry)
 
 abbrev pub nsid_of : List ℕ → ℕ
 nsid_of entry = dword 1 entry
 
--- a number of blocks is written as one less
+-- the number of blocks, which is written less one
 abbrev pub blocks_of : List ℕ → ℕ
 blocks_of entry = bits 15 0 (dword 12 entry) + 1
 
--- the length of a log page is written as its dwords less one, in two halves
+-- the length of a log page, which is written as its dwords less one, in two halves
 abbrev pub log_bytes_of : List ℕ → ℕ
 log_bytes_of entry = 4 * (bits 31 16 (dword 10 entry) + 65536 * bits 15 0 (dword 11 entry) + 1)
 
@@ -51,13 +51,13 @@ admin_command e =
 abbrev pub command : Bool → List ℕ → Cmd
 command admin e = if admin then admin_command e else io_command e
 
--- the bytes of host data that a command brings
+-- the number of bytes of host data that a command brings
 abbrev pub transfer_len : GeometryFields → Cmd → ℕ
 transfer_len g (cmd.Write nsid slba blocks) = blocks * block_len g
 transfer_len g (cmd.Append nsid zslba blocks) = blocks * block_len g
 transfer_len g _ = 0
 
--- the bytes that a command asks for
+-- the number of bytes that a command asks for
 abbrev pub asked_len : GeometryFields → Cmd → ℕ
 asked_len g (cmd.Read nsid slba blocks) = blocks * block_len g
 asked_len g (cmd.Receive nsid slba bytes act filter partial) = bytes
@@ -65,6 +65,6 @@ asked_len g (cmd.Identify nsid cns csi) = 4096
 asked_len g (cmd.GetLog nsid page bytes offset retain) = bytes
 asked_len g _ = 0
 
--- and none where that is over the greatest transfer
+-- and 0 if that is over the greatest transfer
 abbrev pub reply_len : GeometryFields → Cmd → ℕ
 reply_len g c = if nat_lt (greatest_transfer g) (asked_len g c) then 0 else asked_len g c

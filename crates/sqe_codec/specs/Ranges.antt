@@ -4,15 +4,15 @@ use Rattle.sqe_codec.specs.declared.cmd.Cmd.{Cmd}
 use Rattle.sqe_codec.specs.declared.cmd.Cmd.TheVariants as cmd
 use Rattle.sqe_codec.specs.Reading.{is_listed}
 
--- 1 to 65,536 blocks, which sixteen bits count from 0
+-- 1 to 65,536 blocks, as sixteen bits can say, counted from 0
 abbrev pub IsBlockCount : ℕ → Type 0
 IsBlockCount blocks = (1 ≤ blocks) × (blocks ≤ 65536)
 
--- 1 to 2^32 whole dwords, which a dword counts from 0
+-- 1 to 2^32 whole dwords, as a dword can say, counted from 0
 abbrev pub IsDwordLength : ℕ → Type 0
 IsDwordLength bytes = (4 ≤ bytes) × (bytes ≤ 2 ^ 34) × (bytes % 4 ≡ 0)
 
--- each field fits the bits that it is read from
+-- each field fits the bits it is read from
 abbrev pub HasRanges : Cmd → Type 0
 HasRanges (cmd.Flush nsid) = nsid < 2 ^ 32
 HasRanges (cmd.Write nsid slba blocks) = (nsid < 2 ^ 32) × (slba < 2 ^ 64) × IsBlockCount blocks
@@ -28,8 +28,8 @@ HasRanges cmd.Event = Unit {0}
 HasRanges (cmd.Excursion nsid slba kind) = (nsid < 2 ^ 32) × (slba < 2 ^ 64) × (kind < 256)
 HasRanges (cmd.Unknown opcode) = opcode < 256
 
--- some entry spells the command, whose fields fit their types: lengths are in their ranges, and an unknown opcode is
--- listed for neither kind of queue
+-- some entry spells the command, whose fields fit their types: lengths are in range, and an unknown opcode isn't listed for either kind of
+-- queue
 abbrev pub IsWritable : Cmd → Type 0
 IsWritable (cmd.Write nsid slba blocks) = IsBlockCount blocks
 IsWritable (cmd.Read nsid slba blocks) = IsBlockCount blocks

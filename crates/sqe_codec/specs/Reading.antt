@@ -10,7 +10,7 @@ use Rattle.sqe_codec.specs.declared.cmd.Cmd.TheVariants as cmd
 abbrev pub is_io_opcode : ℕ → Bool
 is_io_opcode o = (o == 0x00) || (o == 0x01) || (o == 0x02) || (o == 0x79) || (o == 0x7a) || (o == 0x7d)
 
--- the opcodes of the admin queue; C0h, in the range that is left to vendors, is the excursion of a zone
+-- the opcodes of the admin queue; C0h, in the range left to vendors, is the excursion of a zone
 abbrev pub is_admin_opcode : ℕ → Bool
 is_admin_opcode o = (o == 0x02) || (o == 0x06) || (o == 0x09) || (o == 0x0a) || (o == 0x0c) || (o == 0xc0)
 
@@ -34,7 +34,7 @@ HasLba entry lba = dword 10 entry + 2 ^ 32 * dword 11 entry ≡ lba
 abbrev pub HasBlocks : List ℕ → ℕ → Type 0
 HasBlocks entry blocks = bits 15 0 (dword 12 entry) + 1 ≡ blocks
 
--- a bit of a dword is set exactly where the flag is
+-- a bit of a dword is set exactly if the flag is
 abbrev pub HasFlag : ℕ → ℕ → List ℕ → Bool → Type 0
 HasFlag k place entry flag = IsTrue flag ↔ (bits place place (dword k entry) ≡ 1)
 

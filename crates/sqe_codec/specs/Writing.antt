@@ -1,4 +1,4 @@
--- The bytes of the entry that spells a command and has zeros in every field that isn't read.
+-- The bytes of the entry that spells a command, with zeros in every field that isn't read.
 use Rattle.std.specs.Prelude.{ℕ, ◌+◌, ◌*◌, ◌-◌, ◌/◌, ◌%◌, ◌^◌, Bool, true, false, if◌then◌else◌, List, ◌++◌, replicate}
 use Rattle.byteorder.specs.Endian.{little_bytes}
 use Rattle.sqe_codec.specs.declared.cmd.Cmd.{Cmd}
@@ -21,7 +21,7 @@ IsUnknown _ = ⊥
 abbrev pub one : Bool → ℕ
 one b = if b then 1 else 0
 
--- the first dword: the opcode and the number that the host gives the entry
+-- the first dword: the opcode and the command identifier that the host gives the entry
 abbrev pub first_dword : ℕ → ℕ → ℕ
 first_dword opcode cid = opcode + 2 ^ 16 * cid
 
@@ -33,21 +33,21 @@ send_dword act all option = act + 2 ^ 8 * one all + 2 ^ 9 * one option
 abbrev pub receive_dword : ℕ → ℕ → Bool → ℕ
 receive_dword act filter partial = act + 2 ^ 8 * filter + 2 ^ 16 * one partial
 
--- dword 10 of a Get Log Page, with the low half of the number of dwords
+-- dword 10 of a Get Log Page, with the low half of the number of dwords less one
 abbrev pub log_dword : ℕ → Bool → ℕ → ℕ
 log_dword page retain low = page + 2 ^ 15 * one retain + 2 ^ 16 * low
 
--- an entry by its first two dwords and dwords 10 to 13, of which the first two hold an LBA
+-- an entry with these first two dwords and dwords 10 to 13, of which the first two hold an LBA
 abbrev pub lba_entry : ℕ → ℕ → ℕ → ℕ → ℕ → List ℕ
 lba_entry first nsid lba length how =
     little_bytes 4 first ++ little_bytes 4 nsid ++ replicate 32 0 ++ little_bytes 8 lba ++ little_bytes 4 length ++ little_bytes 4 how ++ replicate 8 0
 
--- an entry by its first two dwords and dwords 10 to 13, of which the last two hold an offset
+-- an entry with these first two dwords and dwords 10 to 13, of which the last two hold an offset
 abbrev pub page_entry : ℕ → ℕ → ℕ → ℕ → ℕ → List ℕ
 page_entry first nsid what value offset =
     little_bytes 4 first ++ little_bytes 4 nsid ++ replicate 32 0 ++ little_bytes 4 what ++ little_bytes 4 value ++ little_bytes 8 offset ++ replicate 8 0
 
--- dwords are counted from 0
+-- the number of dwords in a length, less one
 abbrev pub dwords_less_one : ℕ → ℕ
 dwords_less_one bytes = bytes / 4 - 1
 

@@ -1,8 +1,8 @@
 /// A command, as the 64 bytes of a submission queue entry spell it on a kind of queue: the admin
 /// queue or an I/O queue.
 ///
-/// `nsid` is the namespace, `slba` and `zslba` are logical block numbers of the namespace, from 0,
-/// and `blocks` is a count, of at least one. Lengths are in bytes. Bits that no field names are
+/// `nsid` is the namespace, `slba` and `zslba` are logical block numbers in the namespace, from 0,
+/// and `blocks` is a count of at least one. Lengths are in bytes. Bits that belong to no field are
 /// ignored.
 #[derive(Clone, Copy, Debug, PartialEq, Eq)]
 pub enum Cmd {
@@ -11,14 +11,14 @@ pub enum Cmd {
         nsid: u32,
     },
 
-    /// Write of 1 to 65,536 blocks from `slba` on (NVM Command Set Specification 1.0, 3.2.6).
+    /// Write of 1 to 65,536 blocks starting at `slba` (NVM Command Set Specification 1.0, 3.2.6).
     Write {
         nsid: u32,
         slba: u64,
         blocks: u32,
     },
 
-    /// Read of 1 to 65,536 blocks from `slba` on (NVM Command Set Specification 1.0, 3.2.4).
+    /// Read of 1 to 65,536 blocks starting at `slba` (NVM Command Set Specification 1.0, 3.2.4).
     Read {
         nsid: u32,
         slba: u64,
@@ -63,8 +63,8 @@ pub enum Cmd {
         csi: u8,
     },
 
-    /// Get Log Page of `bytes` bytes, a multiple of 4 and at least 4, from byte `offset` of the
-    /// page on (Base Specification 2.0, 5.16). `retain` is Retain Asynchronous Event.
+    /// Get Log Page of `bytes` bytes, a multiple of 4 and at least 4, starting at byte `offset` of
+    /// the page (Base Specification 2.0, 5.16). `retain` is Retain Asynchronous Event.
     GetLog {
         nsid: u32,
         page: u8,
@@ -87,8 +87,8 @@ pub enum Cmd {
     /// Asynchronous Event Request (Base Specification 2.0, 5.2).
     Event,
 
-    /// An excursion, by which a host makes the zone that begins at `slba` do what a controller does
-    /// on its own: this project's own command, opcode C0h. `kind` 1 finishes the zone, 2 recommends
+    /// An excursion: the host makes the zone that begins at `slba` do what a controller does on its
+    /// own. This is the project's own command, opcode C0h. `kind` 1 finishes the zone, 2 recommends
     /// a finish and 3 a reset, 4 makes it Read Only and 5 Offline.
     Excursion {
         nsid: u32,
@@ -96,7 +96,7 @@ pub enum Cmd {
         kind: u8,
     },
 
-    /// A command whose opcode is not one of its kind of queue.
+    /// A command whose opcode isn't listed for its kind of queue.
     Unknown {
         opcode: u8,
     },

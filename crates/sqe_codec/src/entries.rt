@@ -8,7 +8,7 @@ use crate::cmd::Cmd;
 use crate::layouts::{first, lba_entry, page_entry};
 use crate::sqe::Sqe;
 
-// The whole dwords of a length, counted from 0.
+// The number of dwords in `bytes` bytes, less one.
 fn dwords_less_one(bytes: u64) -> u32
     requires { IsDwordLength bytes }
     ensures value { result ≡ spelled.dwords_less_one bytes }
@@ -38,7 +38,7 @@ fn receive_dword(action: u8, filter: u8, partial: bool) -> u32
     u32::from(action) + (u32::from(filter) << 8) + (u32::from(partial) << 16)
 }
 
-// Dword 10 of a Get Log Page; `low` is the low half of the number of dwords.
+// Dword 10 of a Get Log Page; `low` is the low half of the number of dwords less one.
 fn log_dword(page: u8, retain: bool, low: u16) -> u32
     ensures value { result ≡ spelled.log_dword page retain low }
     ensures page { bits 7 0 result ≡ page }

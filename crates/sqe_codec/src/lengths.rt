@@ -32,7 +32,7 @@ fn asked_len(g: &Geometry, cmd: Cmd) -> u64
     }
 }
 
-/// The number of bytes that an entry asks for, or 0 if one command may not move as many.
+/// The number of bytes that an entry asks for, or 0 if that is more than one command may move.
 pub fn reply_len(g: &Geometry, admin: bool, sqe: &Sqe) -> u32
     ensures exact { result ≡ spelled.reply_len g.now.fields (spelled.command admin sqe.now.bytes) }
     ensures within { result ≤ greatest_transfer g.now.fields }

@@ -1,4 +1,4 @@
-//! Submission queue entries and the commands that they spell.
+//! Submission queue entries and the commands they spell.
 #![tactic(auto)]
 
 mod cmd;

@@ -8,7 +8,7 @@ use crate::cmd::Cmd;
 use crate::sqe::Sqe;
 use crate::words::{bits_of, dword_at, long_at};
 
-// The number of blocks that a Write, a Read or an Append names.
+// The number of blocks of a Write, a Read or an Append.
 fn blocks_at(bytes: &[u8]) -> u32
     requires { length bytes.now ≡ 64 }
     ensures { result ≡ blocks_of bytes.now }
@@ -64,7 +64,7 @@ fn read_io(bytes: &[u8]) -> Cmd
     }
 }
 
-// The number of bytes of a log page that a Get Log Page asks for.
+// The number of log page bytes that a Get Log Page asks for.
 fn log_bytes_at(bytes: &[u8]) -> u64
     requires { length bytes.now ≡ 64 }
     ensures { result ≡ log_bytes_of bytes.now }
@@ -114,7 +114,7 @@ fn read_admin(bytes: &[u8]) -> Cmd
     }
 }
 
-/// The command that an entry spells on the admin queue or on an I/O queue.
+/// The command that an entry spells on the admin queue, or on an I/O queue if `admin` is false.
 pub fn read(sqe: &Sqe, admin: bool) -> Cmd
     ensures command { result ≡ command admin sqe.now.bytes }
     ensures reads { Reads sqe.now.bytes admin result }

@@ -7,7 +7,8 @@ use zns_types::{Geometry, GeometryFields};
 
 const ALL: u32 = u32::MAX;
 
-// An entry by its first two dwords and dwords 10 to 13; each byte of the other dwords is `rest`.
+// An entry with these first two dwords and dwords 10 to 13; each byte of the other dwords is
+// `rest`.
 fn entry(dwords: [u32; 6], rest: u8) -> Sqe {
     let mut bytes = [rest; 64];
     let [first, nsid, ten, eleven, twelve, thirteen] = dwords;
@@ -35,7 +36,7 @@ fn is_writable(cmd: Cmd) -> bool
     }
 }
 
-// The entry spells the command on the kind of queue, and is what is written for it.
+// Checks that the entry spells the command on the kind of queue, and is what is written for it.
 fn spells(rt: &impl Abort, admin: bool, dwords: [u32; 6], cmd: Cmd) {
     let sqe = entry(dwords, 0);
     let number = (dwords[0] >> 16) as u16;
@@ -46,7 +47,7 @@ fn spells(rt: &impl Abort, admin: bool, dwords: [u32; 6], cmd: Cmd) {
     assert!(rt; written.bytes == sqe.bytes, "{cmd:?}");
 }
 
-// Each command of an I/O queue, with its fields at their least and their greatest.
+// Each command of an I/O queue, with its fields at their least and greatest values.
 #[test]
 fn io_commands(rt: HostRuntime) {
     let nsid = ALL;
@@ -192,8 +193,8 @@ fn zone_management(rt: HostRuntime) {
     }
 }
 
-// Each command of the admin queue, with its fields at their least and their greatest; the length of a
-// log page has all 32 bits.
+// Each command of the admin queue, with its fields at their least and greatest values; the length
+// of a log page has all 32 bits.
 #[test]
 fn admin_commands(rt: HostRuntime) {
     let nsid = ALL;
@@ -296,8 +297,8 @@ fn admin_commands(rt: HostRuntime) {
     }
 }
 
-// An opcode that isn't listed for the kind of queue is unknown; an unknown command is the same on
-// both.
+// An opcode that isn't listed for the kind of queue is unknown. An unknown command is the same on
+// both kinds.
 #[test]
 fn opcodes(rt: HostRuntime) {
     for opcode in 0..=0xff {
@@ -324,7 +325,7 @@ fn opcodes(rt: HostRuntime) {
     }
 }
 
-// With every bit set that isn't read, an entry spells the same command. A row has the opcode and the
+// An entry spells the same command with every bit set that isn't read. A row has the opcode and the
 // bits that are read of dword 1 and dwords 10 to 13.
 #[test]
 fn ignored_bits(rt: HostRuntime) {
@@ -368,8 +369,8 @@ const FIELDS: GeometryFields = GeometryFields {
     depth: 64,
 };
 
-// A row has the bytes that an entry brings and those that it asks for, with that limit and without
-// one.
+// A row has the number of bytes that an entry brings and the number it asks for, with that limit
+// and without one.
 #[test]
 fn lengths(rt: HostRuntime) {
     let limited = Geometry::new(FIELDS).expect(&rt, "valid fields");

@@ -8,9 +8,9 @@ use crate::entries::{excursion, identify, log_page, receive, send, set_feature};
 use crate::layouts::{first, lba_entry, page_entry};
 use crate::sqe::Sqe;
 
-/// The entry that spells a command, with zeros in every field that isn't read. Lengths are in their
-/// ranges: 1 to 65,536 blocks, whole dwords of 4 to 2^34 bytes. The opcode of an unknown command is
-/// listed for neither kind of queue.
+/// The entry that spells a command, with zeros in every field that isn't read. Lengths must be in
+/// range: 1 to 65,536 blocks, or whole dwords of 4 to 2^34 bytes. The opcode of an unknown command
+/// must not be listed for either kind of queue.
 #[tactic(auto, unfolding(crate::specs::Commands::io_command, crate::specs::Commands::admin_command))]
 pub fn write(cmd: &Cmd, cid: u16) -> Sqe
     requires { IsWritable cmd.now }

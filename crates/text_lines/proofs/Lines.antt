@@ -1,4 +1,4 @@
--- Texts that are cut into lines.
+-- Cutting texts into lines.
 use Rattle.std.proofs.Common.{◌≡◌, ℕ, zero, suc, ◌-◌, ◌<◌, ◌≤◌, Bool, true, false, cond, List, [], ◌∷◌, ◌++◌, length, get_or, take, drop, Some, None, refl, ap, ◌∙◌, inl, inr, arith}
 use Rattle.std.proofs.lemmas.Bool.{eqb-true, cases_Bool}
 use Rattle.std.proofs.lemmas.Bool.Decides.{nat_tests}
@@ -17,14 +17,14 @@ no_feed byte other = grind (arith, nat_tests)
 
 -- ---- the first line
 
--- it ends at the first line feed
+-- the first line ends at the first line feed
 pub first_line-at : (text : List ℕ) (at : ℕ) → at < length text → get_or text at 0 ≡ line_feed → ((k : ℕ) → k < at → get_or text k 0 ≡ line_feed → ⊥) → take (suc at) text ≡ first_line text
 first_line-at [] at within is before = absurd (omega arith)
 first_line-at (byte ∷ text) zero within is before = rw (is_feed byte is) refl
 first_line-at (byte ∷ text) (suc at) within is before =
     rw (no_feed byte (before 0 (omega arith))) (ap (λ (rest : List ℕ). byte ∷ rest) (first_line-at text at (omega arith) is (λ k lt. before (suc k) (omega arith))))
 
--- or is the whole text
+-- or is the whole text, if there is none
 pub first_line-all : (text : List ℕ) → ((k : ℕ) → k < length text → get_or text k 0 ≡ line_feed → ⊥) → text ≡ first_line text
 first_line-all [] none = refl
 first_line-all (byte ∷ text) none = rw (no_feed byte (none 0 (omega arith))) (ap (λ (rest : List ℕ). byte ∷ rest) (first_line-all text (λ k lt. none (suc k) (omega arith))))
@@ -48,7 +48,7 @@ first_line-within (byte ∷ text) = by_test (first_line-within text) (byte == li
 
 -- ---- all lines
 
--- the others are those of what comes after it
+-- the other lines are those of the text after the first
 pub lines_in-step : (text : List ℕ) → 0 < length text → lines_in text ≡ first_line text ∷ lines_in (drop (length (first_line text)) text)
 lines_in-step [] some = absurd (omega arith)
 lines_in-step (byte ∷ []) some = by_test (byte == line_feed)
@@ -63,7 +63,7 @@ lines_in-step (byte ∷ next ∷ text) some = by_test (lines_in-step (next ∷ t
     by_test rest true = refl
     by_test rest false = ap (onto_first byte) rest
 
--- a text is its lines, one after the other
+-- a text is its lines, one after another
 pub concat-lines_in : (text : List ℕ) → concat (lines_in text) ≡ text
 concat-lines_in [] = refl
 concat-lines_in (byte ∷ text) = by_test (concat-lines_in text) (byte == line_feed)
@@ -81,7 +81,7 @@ abbrev pub HasNoFeed : List ℕ → Type 0
 HasNoFeed [] = Unit {0}
 HasNoFeed (byte ∷ text) = ((byte == line_feed) ≡ false) × HasNoFeed text
 
--- a line and what comes after it
+-- a line and the text after it
 pub lines_in-more : (line rest : List ℕ) → HasNoFeed line → lines_in (line ++ line_feed ∷ rest) ≡ (line ++ line_feed ∷ []) ∷ lines_in rest
 lines_in-more [] rest none = refl
 lines_in-more (byte ∷ line) rest none = rw (none.0) (ap (onto_first byte) (lines_in-more line rest none.1))
@@ -93,7 +93,7 @@ unended-line line =
     let long : length (line ++ line_feed ∷ []) - 1 ≡ length line = omega (arith, length-append line (line_feed ∷ [])) in
     rw (long, get_or-append_seam line line_feed [] 0) (ap (λ (front : List ℕ). Some front) (take_at line (line_feed ∷ []) (length line) refl))
 
--- a line that ends with a line feed is what stands before it, and that
+-- a line that ends with a line feed is the text before it, and the line feed
 pub line-unended : (line text : List ℕ) → unended line ≡ Some text → line ≡ text ++ line_feed ∷ []
 line-unended line text is = elim (cases_Bool (get_or line (length line - 1) 0 == line_feed)) [
   | inl ends ↦

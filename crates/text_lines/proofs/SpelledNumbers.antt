@@ -1,4 +1,4 @@
--- A word spells a number exactly where it is what is printed of it.
+-- A word spells a number exactly if it is how the number is printed.
 use Rattle.std.proofs.Common.{◌≡◌, ℕ, ◌<◌, ◌≤◌, ◌^◌, Bool, true, false, List, length, get_or, Option, Some, None, Result, Ok, Err, refl, sym, ap, subst, ◌∙◌, inl, inr, arith, zero, suc}
 use Rattle.std.specs.Prelude.{◌&&◌, ◌≢◌, ◌↔◌, nat_lt, if◌then◌else◌}
 use Rattle.std.specs.Fmt.{decimal}
@@ -49,7 +49,7 @@ chosen_same true true value n is_same is_small is = ap Some is
 chosen_same true false value n is_same is_small is = absurd cc
 chosen_same false small value n is_same is_small is = absurd cc
 
--- a word that spells a number is found to
+-- for a word that spells a number, that number is found
 pub number_in-decimal : (word : List ℕ) (n : ℕ) → word ≡ decimal n → n < 2 ^ 64 → number_in word ≡ Some n
 number_in-decimal word n is small =
     let value : digits_value 10 word ≡ n = ap (digits_value 10) is ∙ (decimal_is_IsNumeral n small).1 in
@@ -61,7 +61,7 @@ none_if : (word : List ℕ) (found : Option ℕ) → number_in word ≡ found �
 none_if word None is other = refl
 none_if word (Some n) is other = let spelled = number_in-spelled word n is in absurd (other n spelled.0 spelled.1)
 
--- a word that spells none is found to
+-- for a word that spells none, none is found
 pub number_in-none : (word : List ℕ) → ((n : ℕ) → word ≡ decimal n → n < 2 ^ 64 → ⊥) → number_in word ≡ None
 number_in-none word other = none_if word (number_in word) refl other
 
@@ -75,7 +75,7 @@ first_of_decimal (suc n) small = let high : 48 < get_or (decimal (suc n)) 0 0 = 
 plus_spells_none : (word : List ℕ) → get_or word 0 0 ≡ 43 → number_in word ≡ None
 plus_spells_none word plus = number_in-none word (λ n is small. let low = first_of_decimal n small in let first : get_or word 0 0 ≡ get_or (decimal n) 0 0 = ap (λ (w : List ℕ). get_or w 0 0) is in omega arith)
 
--- none but 0 begins with a zero
+-- only 0 begins with a zero
 zero_alone : (n : ℕ) → n < 2 ^ 64 → get_or (decimal n) 0 0 ≡ 48 → length (decimal n) ≡ 1
 zero_alone zero small first = rw (decimal_digit 0 (omega arith)) refl
 zero_alone (suc n) small first = let high : 48 < get_or (decimal (suc n)) 0 0 = first_decimal (suc n) (omega arith) small in absurd (omega arith)
@@ -89,18 +89,18 @@ pub begins_otherwise : (word : List ℕ) → BeginsOtherwise word → number_in 
 begins_otherwise word (inl plus) = plus_spells_none word plus
 begins_otherwise word (inr zeros) = zeros_spell_none word zeros.0 zeros.1
 
--- what is no text spells none
+-- bytes that aren't text spell no number
 pub no_text_spells_none : (word : List ℕ) → ¬ (IsUtf8 word) → number_in word ≡ None
 no_text_spells_none word other = number_in-none word (λ n is small. let P : List ℕ → Type 0 = IsUtf8 in other (subst P (sym is) (IsUtf8-from_ascii (decimal n) (IsAscii-decimal n small))))
 
--- a word that begins as printed numbers do has no zero before other digits
+-- a word that begins as printed numbers do has no leading zero before other digits
 no_zeros : (word : List ℕ) → ¬ (BeginsOtherwise word) → 0 < length word → get_or word 0 0 ≡ 48 → length word ≡ 1
 no_zeros word plain some first = elim (cases_lt 1 (length word)) [ inl long ↦ absurd (plain (inr (first, long))) | inr short ↦ omega arith ]
 
 failed : {E : Type 0} (r : Result ℕ E) (n : ℕ) (e : E) → r ≡ Err e → r ≡ Ok n → ⊥
 failed r n e is_err is_ok = absurd cc
 
--- what is read of other texts is the number that they spell
+-- what is parsed from the other words is the number that they spell
 pub parsed : {E : Type 0} (word : List ℕ) (r : Result ℕ E) → ParsesUnsigned 64 10 word r → ¬ (BeginsOtherwise word) → result_ok r ≡ number_in word
 parsed {E} word (Ok n) parses plain =
     let no_plus : get_or word 0 0 ≢ 43 = λ plus. plain (inl plus) in
@@ -111,6 +111,6 @@ parsed {E} word (Ok n) parses plain =
     sym (number_in-decimal word n spelled.0 spelled.1)
 parsed word (Err e) parses plain = sym (number_in-none word (λ n is small. failed (Err e) n e refl (parse-decimal 64 n word (Err e) small small is parses)))
 
--- a number is found exactly where it is spelled
+-- a number is found exactly if it is spelled
 pub exactly : (word : List ℕ) (found : Option ℕ) → found ≡ number_in word → (n : ℕ) → (found ≡ Some n) ↔ ((word ≡ decimal n) × (n < 2 ^ 64))
 exactly word found is n = (λ some. number_in-spelled word n (sym is ∙ some), λ spelled. is ∙ number_in-decimal word n spelled.0 spelled.1)

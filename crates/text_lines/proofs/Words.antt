@@ -1,4 +1,4 @@
--- Texts that are cut into words.
+-- Cutting texts into words.
 use Rattle.std.proofs.Common.{◌≡◌, ℕ, ◌^◌, ◌<◌, false, List, [], ◌∷◌, ◌++◌, refl, ap, ◌∙◌, arith, append_assoc}
 use Rattle.std.proofs.lemmas.Bool.Decides.{nat_tests}
 use Rattle.std.proofs.lemmas.Fmt.{decimal_is_IsNumeral}
@@ -30,7 +30,7 @@ no_space : (word : List ℕ) → IsWord word → AllByRecursion (λ byte. (byte 
 no_space [] is = tt
 no_space (byte ∷ word) is = (is.0.0, no_space word is.1)
 
--- the words of a text are those that were put together
+-- the words of a text are those that were joined
 pub words_in-spaced : (word : List ℕ) (words : List (List ℕ)) → IsWord word → AreWords words → words_in (spaced (word ∷ words)) ≡ word ∷ words
 words_in-spaced word [] is are = slice_split_none (λ byte. byte == space) word (All-from_recursion (λ byte. (byte == space) ≡ false) word (no_space word is))
 words_in-spaced word (next ∷ words) is are =
@@ -43,7 +43,7 @@ joined [] = refl
 joined (word ∷ []) = refl
 joined (word ∷ next ∷ words) = append_assoc word (space ∷ []) (spaced (next ∷ words)) ∙ ap (λ (rest : List ℕ). word ++ space ∷ rest) (joined (next ∷ words))
 
--- and put together they are the text
+-- and joined again, they are the text
 pub spaced-words_in : (text : List ℕ) → spaced (words_in text) ≡ text
 spaced-words_in text = joined (words_in text) ∙ join_with_byte-slice_split space text
 
@@ -57,7 +57,7 @@ no_feed : (word : List ℕ) → IsWord word → HasNoFeed word
 no_feed [] is = tt
 no_feed (byte ∷ word) is = (is.0.1, no_feed word is.1)
 
--- words with spaces between them have no line feed
+-- words joined by spaces have no line feed
 pub no_feed_in_words : (words : List (List ℕ)) → AreWords words → HasNoFeed (spaced words)
 no_feed_in_words [] are = tt
 no_feed_in_words (word ∷ []) are = no_feed word are.0
@@ -66,7 +66,7 @@ no_feed_in_words (word ∷ next ∷ words) are =
 
 -- ---- numbers
 
--- a digit is neither
+-- a digit is neither a space nor a line feed
 digit_in_word : (byte : ℕ) → digit_value byte < 10 → IsInWord byte
 digit_in_word byte digit = (grind (arith, nat_tests), grind (arith, nat_tests))
 

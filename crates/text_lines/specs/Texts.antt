@@ -1,4 +1,4 @@
--- Lines of text: words with one space between them, and a line feed at the end. A word is a list of bytes.
+-- Lines of text: words with single spaces between them, and a line feed at the end. A word is a list of bytes.
 use Rattle.std.specs.Prelude.{ℕ, List, [], ◌∷◌, ◌++◌, codes}
 
 abbrev pub spaced : List (List ℕ) → List ℕ

@@ -5,8 +5,8 @@ ghost use Rattle.text_lines.specs.Cuts.{first_line, unended, words_in};
 
 use std::alloc::{AllocError, Global};
 
-/// The line at the front of a text: the bytes up to and including the first line feed, or all of
-/// them.
+/// The first line of a text: the bytes up to and including the first line feed, or all of them if
+/// there is none.
 pub fn first_line(text: &[u8]) -> &[u8]
     ensures { result.now ≡ first_line text.now }
 {
@@ -16,7 +16,7 @@ pub fn first_line(text: &[u8]) -> &[u8]
     }
 }
 
-/// A line without the line feed at its end, if it has one.
+/// A line without the line feed at its end, or `None` if it doesn't end with one.
 pub fn unended(line: &[u8]) -> Option<&[u8]>
     ensures { option_map (λ text. text.now) result ≡ unended line.now }
 {
@@ -26,8 +26,8 @@ pub fn unended(line: &[u8]) -> Option<&[u8]>
     }
 }
 
-/// The first words of a text, at most `most`. A word is what stands between two spaces, and may be
-/// empty.
+/// The first words of a text, at most `most` of them. A word is what stands between two spaces, and
+/// may be empty.
 pub fn words_in(alloc: Global, text: &[u8], most: usize) -> Result<Vec<&[u8]>, AllocError>
     ensures { IfOk result (λ words. map (λ word. word.now) words.items
         ≡ take most (words_in text.now)) }

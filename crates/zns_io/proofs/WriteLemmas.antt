@@ -1,18 +1,18 @@
--- Told bytes that are written piece by piece.
+-- Writing bytes piece by piece to a sink that tells them.
 use Rattle.std.proofs.Common.{◌≡◌, ℕ, ◌-◌, ◌<◌, List, [], ◌∷◌, ◌++◌, length, take, drop, Option, Some, None, Result, Ok, Err, refl, sym, ap, ◌∙◌, subst, arith, append_assoc, length-append, length-drop}
 use Rattle.std.proofs.lemmas.List.{take-append-drop, take_all, take_at}
 use Rattle.zns_io.specs.Told.{Gains}
 use Rattle.zns_io.specs.Writing.{GainsPrefix, OffersAll, all_written, failed, written}
 use Rattle.zns_io.specs.declared.failed.Failed.{Failed}
 
--- gained in two pieces, one after the other
+-- two pieces gained one after another are one
 pub Gains-then : (a b c : Option (List ℕ)) (front more : List ℕ) → Gains a b front → Gains b c more → Gains a c (front ++ more)
 Gains-then a b None front more p q = tt
 Gains-then a None (Some zs) front more p q = absurd q
 Gains-then None (Some ys) (Some zs) front more p q = absurd p
 Gains-then (Some xs) (Some ys) (Some zs) front more p q = q ∙ ap (λ (r : List ℕ). r ++ more) p ∙ append_assoc xs front more
 
--- bytes written up to a front of them, of which `rest` is left
+-- all of `bytes` but `rest`, which is still left, were written
 pub record WrittenUpTo (before now : Option (List ℕ)) (bytes rest : List ℕ) : Type 0 where
   pub front : List ℕ
   pub whole : bytes ≡ front ++ rest
@@ -28,7 +28,7 @@ written_then a b c bytes rest count w q = record {
   gained = Gains-then a b c w.front (take count rest) w.gained q;
 }
 
--- what a failure leaves while something is left
+-- a failure while something is left leaves only a front of the bytes written
 pub written_prefix : (a b c : Option (List ℕ)) (bytes rest : List ℕ) → WrittenUpTo a b bytes rest → c ≡ b → 0 < length rest → GainsPrefix a c bytes
 written_prefix a b c bytes rest w same some = rw same (
   length w.front,
@@ -36,7 +36,7 @@ written_prefix a b c bytes rest w same some = rw same (
   let P : List ℕ → Type 0 = λ f. Gains a b f in subst P (sym (rw w.whole (take_at w.front rest (length w.front) refl))) w.gained,
 )
 
--- bytes offered up to the rest: however the rest ends, so do all of them
+-- all before the rest was offered: however the rest ends, so does the whole
 abbrev pub OfferedUpTo : {K : Type 0} → (K → List ℕ → Result ℕ Failed → K → Type 0) → K → K → List ℕ → List ℕ → Type 0
 OfferedUpTo {K} step first now bytes rest = (answer : Result (Unit {0}) Failed) (last : K) → OffersAll step now rest answer last → OffersAll step first bytes answer last
 

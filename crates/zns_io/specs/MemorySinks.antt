@@ -1,17 +1,16 @@
--- Sinks that keep bytes in memory, up to a room.
+-- Sinks that keep bytes in memory, up to their room.
 use Rattle.std.specs.Prelude.{◌≡◌, ℕ, Bool, false, ◌||◌, ◌+◌, ◌-◌, nat_le, ◌++◌, min, List, length, take, Option, Some, None, Result, Ok, IfOk, is_err, if◌then◌else◌}
 use Rattle.zns_io.specs.declared.failed.Failed.{Failed}
 use Rattle.zns_io.specs.Calls.{Calls, is_due, calls_after}
 
--- The bytes kept, whether no write was dropped, how many bytes are kept at most, and how many of
--- them a write takes at most.
+-- The bytes kept, whether no write was dropped, the most bytes that are kept, and the most that one write takes.
 pub record SinkBytes : Type 0 where
   pub kept : List ℕ
   pub whole : Bool
   pub room : ℕ
   pub piece : ℕ
 
--- what a sink tells that may have dropped a write
+-- what a sink tells: nothing once a write was dropped
 abbrev pub bytes_told : SinkBytes → Option (List ℕ)
 bytes_told sink = if sink.whole then Some sink.kept else None
 
@@ -19,7 +18,7 @@ bytes_told sink = if sink.whole then Some sink.kept else None
 abbrev pub write_len : ℕ → List ℕ → ℕ
 write_len piece offered = min (length offered) piece
 
--- the sink after a write, which is dropped where it passes the room
+-- the sink after a write, which is dropped if it doesn't fit
 abbrev pub sink_after_write : SinkBytes → List ℕ → SinkBytes
 sink_after_write sink offered =
     let n = write_len sink.piece offered in
@@ -35,8 +34,8 @@ sink_after_write sink offered =
 abbrev pub WritesSurely : SinkBytes → List ℕ → Result ℕ Failed → SinkBytes → Type 0
 WritesSurely sink offered result after = (result ≡ Ok (write_len sink.piece offered)) × (after ≡ sink_after_write sink offered)
 
--- A sink that takes no more than its room, and of which some calls fail: the bytes taken, how many
--- are taken at most, and how many of them by one write.
+-- A sink that takes no more than its room, with some failing calls: the bytes taken, the most bytes that are taken, and the most that one
+-- write takes.
 pub record FailingSink : Type 0 where
   pub taken : List ℕ
   pub room : ℕ
@@ -47,7 +46,7 @@ pub record FailingSink : Type 0 where
 abbrev pub is_due_or_full : FailingSink → Bool
 is_due_or_full sink = is_due sink.calls || nat_le sink.room (length sink.taken)
 
--- how many of the offered bytes a write takes that doesn't fail
+-- how many of the offered bytes a successful write takes
 abbrev pub write_len_in_room : FailingSink → List ℕ → ℕ
 write_len_in_room sink offered = min (write_len sink.piece offered) (sink.room - length sink.taken)
 

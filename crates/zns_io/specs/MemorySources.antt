@@ -3,36 +3,36 @@ use Rattle.std.specs.Prelude.{◌≡◌, ℕ, ◌++◌, min, List, length, take,
 use Rattle.zns_io.specs.declared.failed.Failed.{Failed}
 use Rattle.zns_io.specs.Calls.{Calls, is_due, calls_after}
 
--- The bytes still to come, and how many of them a read gives at most.
+-- The bytes still to come, and the most that one read gives.
 pub record SourceBytes : Type 0 where
   pub left : List ℕ
   pub piece : ℕ
 
--- how many bytes a read gives into so much room
+-- how many bytes a read gives into a buffer of this length
 abbrev pub read_len : SourceBytes → ℕ → ℕ
 read_len source room = min (length source.left) (min room source.piece)
 
--- what stands in `out` after a read
+-- the bytes in `out` after a read
 abbrev pub out_after_read : SourceBytes → List ℕ → List ℕ
 out_after_read source out =
     let n = read_len source (length out) in take n source.left ++ drop n out
 
--- the source after a read into so much room
+-- the source after a read into a buffer of this length
 abbrev pub source_after_read : SourceBytes → ℕ → SourceBytes
 source_after_read source room =
     record { left = drop (read_len source room) source.left; piece = source.piece }
 
--- what a read into some room answers, puts there and leaves
+-- what a read answers, the buffer after it and the source after it
 abbrev pub GivesSurely : SourceBytes → List ℕ → Result ℕ Failed → List ℕ → SourceBytes → Type 0
 GivesSurely source room result out after =
     (result ≡ Ok (read_len source (length room))) × (out ≡ out_after_read source room) × (after ≡ source_after_read source (length room))
 
--- A source of which some calls fail.
+-- A source with some failing calls.
 pub record FailingSource : Type 0 where
   pub bytes : SourceBytes
   pub calls : Calls
 
--- the source after a read into so much room, which fails where it is due to
+-- the source after a read into a buffer of this length
 abbrev pub source_after_call : FailingSource → ℕ → FailingSource
 source_after_call source room =
     record {
@@ -40,7 +40,7 @@ source_after_call source room =
       calls = calls_after source.calls (is_due source.calls);
     }
 
--- what a read into some room answers, puts there and leaves
+-- what a read answers, the buffer after it and the source after it
 abbrev pub GivesOrFails : FailingSource → List ℕ → Result ℕ Failed → List ℕ → FailingSource → Type 0
 GivesOrFails source room result out after =
     (is_err result ≡ is_due source.calls)

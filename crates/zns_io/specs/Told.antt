@@ -1,7 +1,7 @@
--- Bytes that a source or a sink tells.
+-- The bytes that a source or a sink tells.
 use Rattle.std.specs.Prelude.{◌≡◌, List, ℕ, ◌++◌, Option, Some, None, ⊤}
 
--- What a sink tells now it told before, and it gained these bytes.
+-- If a sink tells its bytes now, it told them before too, and has gained these bytes since.
 abbrev pub Gains : Option (List ℕ) → Option (List ℕ) → List ℕ → Type 0
 Gains before None bytes = ⊤
 Gains None (Some now) bytes = ⊥

@@ -17,7 +17,7 @@ impl Model for Bytes {
 }
 
 impl Bytes {
-    /// No bytes. The allocator is kept, and nothing is allocated.
+    /// No bytes. `alloc` is kept, but nothing is allocated.
     pub fn empty(alloc: Global) -> Bytes
         ensures { result ≡ [] }
     {
@@ -49,7 +49,7 @@ impl Bytes {
         Ok(Bytes { items })
     }
 
-    /// `len` bytes of the value `byte`.
+    /// `len` bytes, each equal to `byte`.
     pub fn filled(alloc: Global, len: u32, byte: u8) -> Result<Bytes, NoMemory>
         ensures { IfOk result (λ b. b ≡ replicate len byte) }
     {

@@ -4,12 +4,12 @@ ghost use Rattle.zns_io.specs.Calls.{is_due, calls_after};
 use crate::failed::Failed;
 use std::marker::Model;
 
-/// A plan of calls that are numbered from 0, of which those in a list fail. It counts the calls, and
-/// those of them that failed.
+/// A plan of which calls fail, by their numbers, counted from 0. It counts the calls, and those
+/// that failed.
 #[derive(Drop)]
 pub struct CallPlan {
     failing: Vec<u32>,
-    // Both counts stand still at `u64::MAX`, which is the number of no call in the list.
+    // Both counts stop at `u64::MAX`, which is the number of no call in the list.
     made: u64,
     faults: u64,
 }
@@ -34,7 +34,7 @@ impl CallPlan {
         }
     }
 
-    /// Counts a call, which fails where its number is in the list, or where it is refused.
+    /// Counts a call, which fails if its number is in the list or if it is refused.
     pub fn count(&mut self, is_refused: bool) -> Result<(), Failed>
         ensures fails { is_err result ≡ (is_due self.old || is_refused) }
         ensures counted { self.new ≡ calls_after self.old (is_due self.old || is_refused) }

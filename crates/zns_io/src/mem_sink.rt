@@ -9,7 +9,7 @@ use crate::sure_sink::SureSink;
 use std::alloc::Global;
 use std::marker::Model;
 
-/// A sink that keeps bytes in memory, up to its room, and of which some calls fail.
+/// A sink that keeps bytes in memory, up to its room. Chosen calls fail.
 #[derive(Drop)]
 pub struct MemSink {
     sink: SureSink,
@@ -28,8 +28,8 @@ impl Model for MemSink {
 }
 
 impl MemSink {
-    /// A sink with room for `room` bytes, of which a write takes at most `piece`. The calls whose
-    /// numbers, from 0, are in `failing` fail, and so do those for which no room is left.
+    /// A sink with room for `room` bytes. Each write takes at most `piece` of them. A call fails if
+    /// its number, counted from 0, is in `failing`, or if the room is used up.
     pub fn new(alloc: Global, room: u32, piece: u32, failing: Vec<u32>) -> Result<MemSink, NoMemory>
         requires { 1 ≤ piece }
         ensures taken { IfOk result (λ sink. sink.taken ≡ []) }
@@ -43,7 +43,7 @@ impl MemSink {
         Ok(MemSink { sink, calls })
     }
 
-    /// The bytes that it took.
+    /// The bytes taken.
     pub fn bytes(&self) -> &[u8]
         ensures { result.now ≡ self.now.taken }
     {

@@ -10,7 +10,7 @@ use crate::source::Source;
 use crate::sure_source::SureSource;
 use std::marker::Model;
 
-/// A source of bytes in memory, of which some calls fail.
+/// A source of bytes in memory. Chosen calls fail.
 #[derive(Drop)]
 pub struct MemSource {
     source: SureSource,
@@ -26,8 +26,8 @@ impl Model for MemSource {
 }
 
 impl MemSource {
-    /// A source of `bytes`, of which a read gives at most `piece`. The calls whose numbers, from 0,
-    /// are in `failing` fail.
+    /// A source of `bytes`. Each read gives at most `piece` of them. A call fails if its number,
+    /// counted from 0, is in `failing`.
     pub fn new(bytes: Bytes, piece: u32, failing: Vec<u32>) -> MemSource
         requires { 1 ≤ piece }
         ensures bytes { result.bytes ≡ record { left = bytes; piece = piece } }

@@ -4,7 +4,8 @@ ghost use Rattle.zns_io.specs.Padding.{padded};
 // Zeros are copied from here, a piece at a time.
 const ZEROS: [u8; 4096] = [0; 4096];
 
-/// Puts zeros after the bytes, up to a length. There is room for them, so no memory is taken.
+/// Appends zeros to `bytes` until its length is `len`. There is room for them, so no memory is
+/// allocated.
 pub fn pad(bytes: &mut Vec<u8>, len: usize)
     requires { len ≤ vec_capacity bytes.old }
     ensures padded { bytes.new.items ≡ padded len bytes.old.items }

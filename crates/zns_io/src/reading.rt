@@ -15,7 +15,7 @@ const PIECE: usize = 65536;
 /// read.
 pub fn read_all<S: Source>(alloc: Global, source: &mut S, limit: u64) -> Result<Bytes, ReadErr>
     requires { limit < 2 ^ 63 }
-    // What came, and what is left, where the source tells it.
+    // The bytes read and the bytes left, if the source tells them.
     ensures all { IfOk result (ReadsAll (S.left source.old) (S.left source.new)) }
     ensures end { OnOk result (IsAtEnd (S.left source.new)) }
     ensures limit { IfOk result (λ bytes. length bytes ≤ limit) }
@@ -24,7 +24,7 @@ pub fn read_all<S: Source>(alloc: Global, source: &mut S, limit: u64) -> Result<
     ensures by_limit { IsByLimit (S.left source.old) limit result }
     ensures at_most { ReadsFrontUpTo (S.left source.old) (S.left source.new) (limit + 1) }
 
-    // The first read that gives nothing ends it, and so does the first that fails.
+    // Reading ends at the first read that gives nothing or fails.
     ensures turns { ReadsInTurn S.step source.old limit result source.new }
 
     // Every fault is counted.

@@ -15,7 +15,7 @@ pub trait Sink {
     /// How many calls failed, up to `u64::MAX`.
     ghost faults: { Self → ℕ };
 
-    /// What a write of a piece may answer, and the sink that it may leave.
+    /// Relates a sink and the piece that it is offered to the answer and the sink after the write.
     ghost step: { Self → List ℕ → Result ℕ Failed → Self → Type 0 };
 
     /// Takes some bytes from the front of `piece`, which isn't empty, and returns how many.

@@ -16,11 +16,12 @@ pub trait Source {
     /// How many calls failed, up to `u64::MAX`.
     ghost faults: { Self → ℕ };
 
-    /// What a read into some room may answer, put there, and leave of the source.
+    /// Relates a source and the buffer of a read to the answer, the buffer after the read and the
+    /// source after it.
     ghost step: { Self → List ℕ → Result ℕ Failed → List ℕ → Self → Type 0 };
 
-    /// Puts some bytes at the start of `out`, which isn't empty, and returns how many. 0 is the
-    /// end.
+    /// Reads some bytes into the start of `out`, which isn't empty, and returns how many. 0 means
+    /// the end.
     fn read(&mut self, out: &mut [u8]) -> Result<usize, Failed>
         requires { 0 < length out.old }
         ensures step { step self.old out.old result out.new self.new }

@@ -9,12 +9,13 @@ use std::io::Write;
 use std::marker::Model;
 use std::snapshot::Snapshot;
 
-/// A sink over a writer of the standard library, which tells what the writer tells.
+/// A sink over a writer of the standard library. It tells what the writer tells.
 #[derive(Drop)]
 pub struct StdSink<W: Write> {
     writer: W,
     failures: u64,
-    // The writer at first, for proofs alone: one that told nothing then tells nothing later.
+    // The writer as it was at first, used only in proofs: a writer that told nothing then tells
+    // nothing later.
     first: Snapshot<W>,
 }
 

@@ -10,12 +10,13 @@ use std::io::Read;
 use std::marker::Model;
 use std::snapshot::Snapshot;
 
-/// A source over a reader of the standard library, which tells what the reader tells.
+/// A source over a reader of the standard library. It tells what the reader tells.
 #[derive(Drop)]
 pub struct StdSource<R: Read> {
     reader: R,
     failures: u64,
-    // The reader at first, for proofs alone: one that told nothing then tells nothing later.
+    // The reader as it was at first, used only in proofs: a reader that told nothing then tells
+    // nothing later.
     first: Snapshot<R>,
 }
 
@@ -33,7 +34,7 @@ impl<R: Read> Model for StdSource<R> {
 }
 
 impl<R: Read> StdSource<R> {
-    /// A source of what `reader` gives.
+    /// A source of the bytes that `reader` gives.
     pub fn new(reader: R) -> StdSource<R>
         ensures { result ≡ record { told = R.remaining reader; faults = 0 } }
     {

@@ -7,8 +7,8 @@ use crate::sink::Sink;
 use std::alloc::Global;
 use std::marker::Model;
 
-/// A sink that keeps bytes in memory and never fails. A write that passes its room is dropped, and
-/// from then on the sink doesn't tell what it took.
+/// A sink that keeps bytes in memory and never fails. A write that doesn't fit its room is dropped,
+/// and from then on the sink doesn't tell what it took.
 #[derive(Drop)]
 pub struct SureSink {
     kept: Vec<u8>,
@@ -29,7 +29,7 @@ impl Model for SureSink {
 }
 
 impl SureSink {
-    /// A sink with room for `room` bytes, of which a write takes at most `piece`.
+    /// A sink with room for `room` bytes. Each write takes at most `piece` of them.
     pub fn new(alloc: Global, room: u32, piece: u32) -> Result<SureSink, NoMemory>
         requires { 1 ≤ piece }
         ensures { IfOk result (λ sink.
@@ -51,7 +51,7 @@ impl SureSink {
         &self.kept
     }
 
-    /// The number of further bytes that it keeps.
+    /// How many more bytes fit.
     pub(crate) fn room_left(&self) -> usize
         ensures left { result ≡ self.now.room - length self.now.kept }
         ensures within { length self.now.kept ≤ self.now.room }

@@ -27,7 +27,7 @@ impl Model for SureSource {
 }
 
 impl SureSource {
-    /// A source of `bytes`, of which a read gives at most `piece`.
+    /// A source of `bytes`. Each read gives at most `piece` of them.
     pub fn new(bytes: Bytes, piece: u32) -> SureSource
         requires { 1 ≤ piece }
         ensures { result ≡ record { left = bytes; piece = piece } }

@@ -2,7 +2,7 @@ use super::*;
 use std::alloc::{AllocError, Global};
 use std::test::Fail;
 
-// So many bytes that count up from 0, and begin again after 250.
+// `len` bytes that count up from 0, starting again after 250.
 fn counted(alloc: Global, len: usize) -> Result<Vec<u8>, AllocError> {
     let mut items = Vec::new(alloc);
     for at in 0..len {
@@ -11,8 +11,8 @@ fn counted(alloc: Global, len: usize) -> Result<Vec<u8>, AllocError> {
     Ok(items)
 }
 
-// Reads 250 bytes in pieces of 100, of which some calls fail: how many bytes came and how the call
-// ended.
+// Reads 250 bytes in pieces of 100, with some failing calls: how many bytes came and how the
+// reading ended.
 fn length_read(
     alloc: Global,
     failing: &[u32],
@@ -24,7 +24,7 @@ fn length_read(
     Ok(read_all(alloc, &mut source, u64::from(limit)).map(|bytes| bytes.as_slice().len()))
 }
 
-// Writes 2,500 bytes in pieces of 1,000, of which some calls fail: whether all were taken, and how
+// Writes 2,500 bytes in pieces of 1,000, with some failing calls: whether all were taken, and how
 // many were.
 fn length_written(alloc: Global, room: u32, failing: &[u32]) -> Result<(bool, usize), Fail> {
     let bytes = counted(alloc, 2500)?;
@@ -129,7 +129,7 @@ fn readers_and_writers_of_std(rt: HostRuntime) -> Result<(), Fail> {
     drop(sink);
     assert_eq!(rt; items.as_slice(), bytes.as_slice());
 
-    // Each call is one of the reader or the writer, with all the room or all the bytes.
+    // Each call makes one call of the reader or the writer, with the whole buffer or all the bytes.
     let mut out = [0; 4096];
     let mut source = StdSource::new(bytes.as_slice());
     for len in [4096, 904, 0] {

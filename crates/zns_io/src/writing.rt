@@ -6,7 +6,7 @@ ghost use Rattle.zns_io.specs.Writing.{GainsPrefix, OffersAll};
 use crate::failed::Failed;
 use crate::sink::Sink;
 
-/// Writes all the bytes, and offers all that is left at each write.
+/// Writes all of `bytes`, and offers all that is left at each write.
 pub fn write_all<K: Sink>(sink: &mut K, bytes: &[u8]) -> Result<(), Failed>
     ensures all { OnOk result (Gains (K.taken sink.old) (K.taken sink.new) bytes.now) }
     ensures prefix { OnErr result (GainsPrefix (K.taken sink.old) (K.taken sink.new) bytes.now) }

@@ -1,4 +1,4 @@
--- What a check finds of an input, and how it ends.
+-- What a check finds in an input, and how it ends.
 use Rattle.std.proofs.Common.{◌≡◌, ℕ, ◌+◌, ◌*◌, ◌^◌, ◌<◌, ◌≤◌, List, [], ◌++◌, length, take, drop, Option, Some, None, Err, refl, sym, ap, subst, ◌∙◌, arith}
 use Rattle.std.proofs.lemmas.List.{append_assoc, append-nil, take-append-drop, take_at, drop_all, length-append, length-take}
 use Rattle.std.specs.Io.KnownBytes.{IsAtEnd}
@@ -32,7 +32,7 @@ use Rattle.zns_runner.proofs.Checked.{is_unlike}
 
 -- ---- what was taken of an input
 
--- a session
+-- a session was taken
 was_front : (input : List ℕ) (s : Recorded) (left : Option (List ℕ)) (t : TailBytes) → IsSession s → IsIn input left t → spells s (take t.at input) → WasFront input s t.at
 was_front input s left t valid is begins =
     let rest : HasLeft input left t = has_left input left t is in
@@ -41,7 +41,7 @@ was_front input s left t valid is begins =
     let b : BeginsWith input s (drop t.at input) = begins_with input s (drop t.at input) valid whole in
     record { valid = valid; spelled = begins; end = size ∙ sym b.end; passed = b.passed }
 
--- and then an order
+-- an order was taken after it
 was_order : (input : List ℕ) (s : Recorded) (left : Option (List ℕ)) (old between : TailBytes) (order : List ℕ) → IsSession s → IsIn input left old → spells s (take old.at input) → length input ≤ 2 ^ 29 → IsOrder s.acts order → ComeNext left old between (order_bytes order)
     → WasOrder input s old.at order
 was_order input s left old between order valid is begins short each_once next =
@@ -53,11 +53,11 @@ was_order input s left old between order valid is begins short each_once next =
       named = ap (take (12 + 2 * length order)) stand.there ∙ take_at (order_bytes order) (drop between.at input) (12 + 2 * length order) (length-order_bytes order);
     }
 
--- an order that the bytes begin with is no longer than they are
+-- an order that bytes begin with is no longer than they are
 pub order_fits : (order held : List ℕ) (len : ℕ) → take (12 + 2 * length order) held ≡ order_bytes order → len ≡ 12 + 2 * length order → len ≤ length held
 order_fits order held len named is = omega (arith, ap length named, length-take (12 + 2 * length order) held, length-order_bytes order, is)
 
--- the bytes that are held begin with an order
+-- the held bytes begin with an order, which is taken
 pub order_next : (left mid : Option (List ℕ)) (old filled new : TailBytes) (order : List ℕ) (len : ℕ) → StaysIn left mid old filled → filled.at ≡ old.at → take (12 + 2 * length order) filled.held ≡ order_bytes order → len ≡ 12 + 2 * length order → new.held ≡ drop len filled.held → new.at ≡ filled.at + len
     → ComeNext left old new (order_bytes order)
 order_next left mid old filled new order len stays same named is held at =
@@ -72,19 +72,19 @@ order_next left mid old filled new order len stays same named is held at =
 
 -- ---- errors
 
--- too long an input calls for no other answer
+-- an input that is too long calls for no other answer
 over_calls : (left now : Option (List ℕ)) (old new : TailBytes) (s : Recorded) (answer : Status) → StaysIn left now old new → IsOver new → CallsFrom left old s answer
 over_calls left now old new s answer stays over = λ input is begins short.
     absurd (omega (arith, short, over, (has_left input now new (stays input is)).long))
 
--- reading ended
+-- an error of reading
 pub answers_reading : (left now : Option (List ℕ)) (old new : TailBytes) (s : Recorded) (faults faults_now : ℕ) (e : ReadErr) → StaysIn left now old new → (e ≡ read_err.Over → IsOver new) → (e ≡ read_err.Failed → Rose faults faults_now)
     → Answers faults faults_now (CallsFrom left old s) (status_of_reading e)
 answers_reading left now old new s faults faults_now read_err.NoMemory stays over fault = tt
 answers_reading left now old new s faults faults_now read_err.Failed stays over fault = fault refl
 answers_reading left now old new s faults faults_now read_err.Over stays over fault = over_calls left now old new s (status.TooLarge which.Input (2 ^ 29 + 1)) stays (over refl)
 
--- no order came
+-- the held bytes don't begin with an order
 order_broken : (input : List ℕ) (s : Recorded) (left mid : Option (List ℕ)) (old filled : TailBytes) (e : FileErr) → StaysIn left mid old filled → filled.at ≡ old.at → (length filled.held < 12 + 2 * length s.acts → IsAtEnd mid) → IsFirstAfter filled.at filled.held s.acts e → IsIn input left old
     → IsFirstOf (result_rows input old.at s.acts) e
 order_broken input s left mid old filled e stays same ends first is =
@@ -104,7 +104,7 @@ answers_order left mid old filled s faults faults_now (Bad reason offset) valid 
 answers_order left mid old filled s faults faults_now (Large which number) valid stays same ends first = λ input is begins short.
     order_cause input s old.at (Large which number) short (was_front input s left old valid is begins) (order_broken input s left mid old filled (Large which number) stays same ends first is)
 
--- a comparison ended
+-- an error of a comparison
 pub answers_comparison : (left mid now : Option (List ℕ)) (old between new : TailBytes) (s : Recorded) (order : List ℕ) (first faults faults_now : ℕ) (e : CompareErr) → IsSession s → IsOrder s.acts order → StaysIn left mid old between → StaysIn mid now between new
     → ComeNext left old between (order_bytes order) → first ≤ faults → StopsBy faults faults_now new (ComeOtherwise mid between (bytes_after_order s order)) e → Answers first faults_now (CallsFrom left old s) (status_of_comparison e)
 answers_comparison left mid now old between new s order first faults faults_now compare_err.NoMemory valid each_once one two next few stops = tt
@@ -115,7 +115,7 @@ answers_comparison left mid now old between new s order first faults faults_now 
 
 -- ---- how a check ends
 
--- an input whose session was taken
+-- an input that a source told, whose session was taken
 begun_in : (input : List ℕ) (now : Option (List ℕ)) (s : Recorded) (t : TailBytes) → IsBegun (Some input) now s t → IsIn input now t
 begun_in input now s t begun = record { front = spelling s; long = sym begun.long; came = begun.read }
 
@@ -124,14 +124,14 @@ begun_spelled input None s t begun = absurd begun.read
 begun_spelled input (Some more) s t begun =
     ap (take t.at) (begun.read ∙ append_assoc (spelling s) t.held more) ∙ take_at (spelling s) (t.held ++ more) t.at (sym begun.long)
 
--- how far a source was read
+-- at most one byte more than the longest input was read
 pub begun_front : (left mid now : Option (List ℕ)) (s : Recorded) (old new : TailBytes) → IsBegun left mid s old → StaysIn mid now old new → new.at + length new.held ≤ 2 ^ 29 + 1 → ReadsFrontUpTo left now (2 ^ 29 + 1)
 begun_front None mid now s old new begun stays few = (0, omega arith, tt)
 begun_front (Some input) mid now s old new begun stays few =
     let is : IsIn input now new = stays input (begun_in input mid s old begun) in
     (length (is.front ++ new.held), omega (arith, few, is.long, length-append is.front new.held), ReadsFront-consumed (Some input) now (is.front ++ new.held) (length (is.front ++ new.held)) is.came refl)
 
--- the rest was read to its end, and isn't too long
+-- the rest was read to its end, and the input isn't too long
 pub record WasDrained (now : Option (List ℕ)) (t : TailBytes) : Type 0 where
   pub all : t.held ≡ []
   pub end : IsAtEnd now
@@ -163,13 +163,13 @@ ends_with left mid now s old new first faults then_faults faults_now (status.Too
 ends_with left mid now s old new first faults then_faults faults_now (status.Differs offset) begun stays drained few more answers =
     record { cause = called left mid now s old new _ begun stays drained answers; read = begun_front left mid now s old new begun stays (omega (arith, drained.short, ap length drained.all)) }
 
--- too much came
+-- more bytes came than an input may have
 over_limit : (left mid now : Option (List ℕ)) (s : Recorded) (old new : TailBytes) → IsBegun left mid s old → StaysIn mid now old new → IsOver new → IsByLimit left (2 ^ 29) (Err read_err.Over)
 over_limit None mid now s old new begun stays over = tt
 over_limit (Some input) mid now s old new begun stays over =
     omega (arith, over, (has_left input now new (stays input (begun_in input mid s old begun))).long)
 
--- reading the rest ended
+-- an error of reading the rest
 pub ends_reading : (left mid now : Option (List ℕ)) (s : Recorded) (old new : TailBytes) (first faults faults_now : ℕ) (e : ReadErr) → IsBegun left mid s old → StaysIn mid now old new → new.at + length new.held ≤ 2 ^ 29 + 1 → first ≤ faults
     → (e ≡ read_err.Over → IsOver new) → (e ≡ read_err.Failed → Rose faults faults_now) → EndsBefore the_task.Check left now first faults_now (status_of_reading e)
 ends_reading left mid now s old new first faults faults_now read_err.NoMemory begun stays short few over fault = begun_front left mid now s old new begun stays short

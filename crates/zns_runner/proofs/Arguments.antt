@@ -1,4 +1,4 @@
--- What is left of a program's arguments once the first was taken.
+-- The arguments that remain once the first was taken.
 use Rattle.std.proofs.Common.{◌≡◌, ℕ, ◌<◌, ◌↔◌, List, [], ◌∷◌, ◌++◌, length, drop, ◌∙◌, ap, refl, IsSome, arith}
 use Rattle.std.specs.Iterator.{Yields}
 use Rattle.std.specs.Option.{option_to_list}
@@ -7,13 +7,13 @@ use Rattle.std.specs.declared.option.Option.{Option}
 use Rattle.std.specs.declared.option.Option.TheVariants.{Some, None}
 use Rattle.std.specs.declared.vec.IntoIter.{IntoIter}
 
--- a list of so many elements without its first one, which was taken where there was one
+-- a list of `count` elements without its first one, which was taken if there was one
 pub without_first : {X : Type 0} (first : Option X) (all rest : List X) (count : ℕ) → all ≡ option_to_list first ++ rest → count ≡ length all → (IsSome first ↔ (0 < count)) → drop 1 all ≡ rest
 without_first None [] rest count e len some = e
 without_first None (x ∷ xs) rest count e len some = grind (arith, e, len, some)
 without_first (Some x) all rest count e len some = ap (drop 1) e
 
--- an iterator gave all of its elements once none is left
+-- an iterator has given all its elements once none is left
 pub all_given : {X A : Type 0} (from : IntoIter X A) (given : List X) (now : IntoIter X A) → Yields into_iter_steps from given now → length (into_iter_items now) ≡ 0 → into_iter_items from ≡ given
 all_given from [] now yields none = ap into_iter_items yields ∙ nothing (into_iter_items now) none
   where

@@ -1,4 +1,4 @@
--- An input calls for one answer only.
+-- An input calls for only one answer.
 use Rattle.std.proofs.Common.{◌≡◌, ℕ, ◌+◌, List, length, drop, Option, Some, None, sym, ap, ◌∙◌}
 use Rattle.zns_types.specs.Rows.{first_holding}
 use Rattle.zone_model.specs.Sessions.{Recorded, spelling, result_of}
@@ -18,25 +18,25 @@ use Rattle.zns_runner.specs.Making.{status_of}
 use Rattle.zns_runner.proofs.Comparisons.{first_difference-same}
 use Rattle.zns_runner.proofs.Inputs.{unbroken, script_unbroken, made_unbroken, IsRead, is_read}
 
--- the answer by a first difference
+-- the answer for a first difference, if there is one
 abbrev by_difference : Option ℕ → Status
 by_difference None = status.Ok
 by_difference (Some offset) = status.Differs offset
 
--- the answer by a first rule that is broken, or else this one
+-- the answer for the first broken rule, or this one if there is none
 abbrev by_rule : Option FileErr → Status → Status
 by_rule None s = s
 by_rule (Some e) s = status_of e
 
--- how a result differs from what a session gives in an order
+-- where a result first differs from what a session gives in an order
 abbrev difference : Recorded → ℕ → List ℕ → List ℕ → Option ℕ
 difference s at result order = first_difference at result (result_of s order)
 
--- how the result in an input differs
+-- where the result in an input first differs from that of its session
 abbrev difference_in : List ℕ → Option ℕ
 difference_in bytes = difference (session_in bytes) (session_end bytes) (drop (session_end bytes) bytes) (queues_from (length (session_in bytes).acts) (session_end bytes + 12) bytes)
 
--- the one answer
+-- the one answer that an input calls for
 abbrev called : Task → List ℕ → Status
 called the_task.One bytes = by_rule (first_holding (session_rows bytes)) status.Ok
 called the_task.Run bytes = by_rule (first_holding (session_rows bytes)) status.Ok
@@ -56,7 +56,7 @@ difference_read bytes s order result has =
     ∙ ap (λ at. difference (session_in bytes) at result order) read.end
     ∙ ap (λ (of : Recorded). difference of (length (spelling s)) result order) read.session
 
--- an answer by the difference, where there is a result
+-- if there is a result, the answer is the one for its difference
 compared_called : (bytes : List ℕ) (s : Recorded) (order result : List ℕ) (found : Option ℕ) → HasResult bytes s order result → difference s (length (spelling s)) result order ≡ found
     → by_difference found ≡ by_rule (first_holding (checked_rows bytes)) (by_difference (difference_in bytes))
 compared_called bytes s order result found has is =
@@ -72,7 +72,7 @@ unlike_called bytes offset unlike = compared_called bytes unlike.session unlike.
 refusal_called : (rule : Option FileErr) (e : FileErr) (s : Status) → rule ≡ Some e → status_of e ≡ by_rule rule s
 refusal_called rule e s is = ap (λ r. by_rule r s) (sym is)
 
--- what an input calls for is the one answer
+-- an input calls for no other answer
 is_called : (t : Task) (bytes : List ℕ) (answer : Status) → CallsFor t bytes answer → answer ≡ called t bytes
 is_called the_task.One bytes status.Ok calls = spelled_called bytes calls
 is_called the_task.Run bytes status.Ok calls = spelled_called bytes calls
@@ -103,6 +103,6 @@ is_called the_task.Show bytes (status.Differs offset) calls = absurd calls
 is_called the_task.Host bytes (status.Differs offset) calls = absurd calls
 is_called (the_task.Gen number count) bytes (status.Differs offset) calls = absurd calls
 
--- so there is one
+-- an input calls for only one answer
 pub one_answer : (t : Task) (bytes : List ℕ) (answer other : Status) → CallsFor t bytes answer → CallsFor t bytes other → answer ≡ other
 one_answer t bytes answer other calls also = is_called t bytes answer calls ∙ sym (is_called t bytes other also)

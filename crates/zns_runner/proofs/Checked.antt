@@ -1,4 +1,4 @@
--- What a drive answers to acts, compared with an input.
+-- A drive's replies to acts, compared with an input.
 use Rattle.std.proofs.Common.{◌≡◌, ℕ, ◌+◌, ◌*◌, ◌<◌, ◌≤◌, List, [], ◌∷◌, ◌++◌, length, drop, Option, Some, Result, Ok, Err, refl, sym, ap, ◌∙◌, arith}
 use Rattle.std.proofs.lemmas.List.{append_assoc, take-append-drop, drop-drop}
 use Rattle.std.specs.Prelude.{IfErr, OnOk}
@@ -25,7 +25,7 @@ use Rattle.zns_runner.proofs.Inputs.{WasOrder, result_read, result_of-parts, fro
 part_of-reply : (g : GeometryFields) (acts : List Act) (a : Act) (r : Reply) → IsReply g (answered g acts) a r → part_of r ≡ act_bytes g (answered g acts) a
 part_of-reply g acts a r is = rw (is.entries, is.read) refl
 
--- the reply to one act more came
+-- the reply to one more act came
 pub reply_next : (g : GeometryFields) (left mid : Option (List ℕ)) (old between new : TailBytes) (acts : List Act) (a : Act) (r : Reply) → IsReply g (answered g acts) a r → StaysIn left mid old between
     → ComeNext left old between (replies_bytes g [] acts) → ComeNext mid between new (part_of r) → ComeNext left old new (replies_bytes g [] (acts ++ a ∷ []))
 reply_next g left mid old between new acts a r is stays before here =
@@ -46,7 +46,7 @@ begins_as g h (a ∷ acts) rest =
       same = ap (λ (tail : List ℕ). act_bytes g h a ++ tail) later.same ∙ sym (append_assoc (act_bytes g h a) (replies_bytes g (and_then g h a) acts) later.more);
     }
 
--- another came
+-- something else came than the reply
 pub reply_others : (g : GeometryFields) (left mid : Option (List ℕ)) (old between : TailBytes) (all acts : List Act) (a : Act) (rest : List Act) (r : Reply) (offset : ℕ) → all ≡ acts ++ a ∷ rest → IsReply g (answered g acts) a r → StaysIn left mid old between
     → ComeNext left old between (replies_bytes g [] acts) → ComeOthers mid between (part_of r) offset → ComeOthers left old (replies_bytes g [] all) offset
 reply_others g left mid old between all acts a rest r offset whole is stays before here =
@@ -60,18 +60,18 @@ reply_others g left mid old between all acts a rest r offset whole is stays befo
 
 -- ---- two parts, one after the other
 
--- an error at the first one
+-- an error in the first part
 pub stops_sooner : (left : Option (List ℕ)) (old new : TailBytes) (faults faults_now : ℕ) (xs ys whole : List ℕ) (e : CompareErr) → xs ++ ys ≡ whole → StopsBy faults faults_now new (ComeOthers left old xs) e → StopsBy faults faults_now new (ComeOthers left old whole) e
 stops_sooner left old new faults faults_now xs ys whole e same stops =
     stops_so faults faults faults_now new (ComeOthers left old xs) (ComeOthers left old whole) e (omega arith) (λ offset others. others_same left old (xs ++ ys) whole offset same (others_sooner left old xs ys offset others)) stops
 
--- an error at the second one
+-- an error in the second part
 stops_later : (left mid : Option (List ℕ)) (old between new : TailBytes) (faults faults_mid faults_now : ℕ) (xs ys whole : List ℕ) (e : CompareErr) → xs ++ ys ≡ whole → faults ≤ faults_mid → StaysIn left mid old between → ComeNext left old between xs
     → StopsBy faults_mid faults_now new (ComeOthers mid between ys) e → StopsBy faults faults_now new (ComeOthers left old whole) e
 stops_later left mid old between new faults faults_mid faults_now xs ys whole e same few stays before stops =
     stops_so faults faults_mid faults_now new (ComeOthers mid between ys) (ComeOthers left old whole) e few (λ offset others. others_same left old (xs ++ ys) whole offset same (others_later left mid old between xs ys offset stays before others)) stops
 
--- the answer of the second one is that of both
+-- the second part came, so both did
 pub both_come : {T : Type 0} (r : Result T CompareErr) (left mid : Option (List ℕ)) (old between new : TailBytes) (xs ys whole : List ℕ) → xs ++ ys ≡ whole → StaysIn left mid old between → ComeNext left old between xs
     → OnOk r (ComeNext mid between new ys) → OnOk r (ComeNext left old new whole)
 both_come (Ok done) left mid old between new xs ys whole same stays before here = next_same left old new (xs ++ ys) whole same (next_then left mid old between new xs ys stays before here)
@@ -84,12 +84,12 @@ both_stop (Err e) left mid old between new faults faults_mid faults_now xs ys wh
 
 -- ---- the end
 
--- nothing comes after these bytes
+-- an error, with nothing after these bytes
 pub stops_alone : (left : Option (List ℕ)) (old new : TailBytes) (faults faults_now : ℕ) (bytes : List ℕ) (e : CompareErr) → StopsBy faults faults_now new (ComeOthers left old bytes) e → StopsBy faults faults_now new (ComeOtherwise left old bytes) e
 stops_alone left old new faults faults_now bytes e stops =
     stops_so faults faults faults_now new (ComeOthers left old bytes) (ComeOtherwise left old bytes) e (omega arith) (λ offset others. λ input is. differs_alone input old.at bytes offset (others input is)) stops
 
--- the input goes on after them
+-- the input goes on after these bytes
 pub more_comes : (left mid now : Option (List ℕ)) (old between filled : TailBytes) (bytes : List ℕ) → StaysIn left mid old between → ComeNext left old between bytes → StaysIn mid now between filled → filled.at ≡ between.at → 0 < length filled.held
     → ComeOtherwise left old bytes filled.at
 more_comes left mid now old between filled bytes stays next read same some = λ input is.
@@ -98,7 +98,7 @@ more_comes left mid now old between filled bytes stays next read same some = λ 
 
 -- ---- a drive after all replies
 
--- a drive served the acts of a session in an order
+-- a drive has served the acts of a session in an order
 pub record HasServed (s : Recorded) (order : List ℕ) (g now : GeometryFields) (mixed acts : List Act) : Type 0 where
   pub geometry : g ≡ s.geometry
   pub mixed_is : mixed ≡ merge s order
@@ -114,14 +114,14 @@ after_replies s order g now mixed acts has =
 
 -- ---- a result
 
--- what comes after it
+-- the input after the session: the order, and what comes after it
 after_order : (input : List ℕ) (s : Recorded) (from at : ℕ) (order : List ℕ) → WasOrder input s from order → at ≡ from + (12 + 2 * length order) → drop from input ≡ order_bytes order ++ drop at input
 after_order input s from at order was there =
     sym (take-append-drop (12 + 2 * length order) (drop from input))
     ∙ ap (λ (front : List ℕ). front ++ drop (12 + 2 * length order) (drop from input)) was.named
     ∙ ap (λ (rest : List ℕ). order_bytes order ++ rest) (drop-drop (12 + 2 * length order) from input ∙ ap (λ n. drop n input) (sym there))
 
--- a difference after it
+-- a difference after the order is one of the result
 pub is_unlike : (input : List ℕ) (s : Recorded) (from at : ℕ) (order : List ℕ) (offset : ℕ) → WasOrder input s from order → at ≡ from + (12 + 2 * length order) → IsDifference input at (bytes_after_order s order) offset → IsUnlike input offset
 is_unlike input s from at order offset was there differs =
     let begins : BeginsWith input s (drop from input) = begins_with input s (drop from input) was.front.valid (front_spelled input s from was.front) in

@@ -1,4 +1,4 @@
--- How an input is compared with bytes, one part after the other.
+-- How an input is compared with bytes, one part after another.
 use Rattle.std.proofs.Common.{◌≡◌, ◌≢◌, ℕ, suc, ◌+◌, ◌-◌, ◌<◌, ◌≤◌, Bool, true, false, cond, List, [], ◌∷◌, ◌++◌, length, take, drop, get_or, Some, None, refl, sym, ap, subst, ◌∙◌, ⊎_elim, arith}
 use Rattle.std.proofs.lemmas.Bool.{eq-eqb, cases_lt}
 use Rattle.std.proofs.lemmas.Bool.Decides.{nat_tests, Decides-eqb}
@@ -11,20 +11,20 @@ use Rattle.zns_runner.specs.Differences.{first_difference, StandAt, DiffersFrom,
 
 -- ---- first differences
 
--- what two lists begin with alike
+-- a common front of two lists can be skipped
 pub first_difference-append : (at : ℕ) (xs ys zs : List ℕ) → first_difference at (xs ++ ys) (xs ++ zs) ≡ first_difference (at + length xs) ys zs
 unfolding first_difference
 first_difference-append at [] ys zs = ap (λ n. first_difference n ys zs) (omega arith)
 first_difference-append at (x ∷ xs) ys zs =
     rw (eq-eqb x x refl) (first_difference-append (at + 1) xs ys zs ∙ ap (λ n. first_difference n ys zs) (omega arith))
 
--- a list has none from itself
+-- a list doesn't differ from itself
 pub first_difference-same : (at : ℕ) (xs : List ℕ) → first_difference at xs xs ≡ None
 unfolding first_difference
 first_difference-same at [] = refl
 first_difference-same at (x ∷ xs) = rw (eq-eqb x x refl) (first_difference-same (at + 1) xs)
 
--- an input that ends, or has another byte
+-- the input ends here, or has another byte
 differs_here : (input : List ℕ) (at byte : ℕ) (more : List ℕ) → (at < length input → get_or input at 0 ≢ byte) → first_difference at (drop at input) (byte ∷ more) ≡ Some at
 unfolding first_difference
 differs_here input at byte more other = ⊎_elim (λ h. there h) (λ h. rw (drop_all at input h) refl) (cases_lt at (length input))
@@ -34,7 +34,7 @@ differs_here input at byte more other = ⊎_elim (λ h. there h) (λ h. rw (drop
         let unlike : (get_or input at 0 == byte) ≡ false = grind (arith, nat_tests, other h) in
         rw (drop_more input at 0 h, unlike) refl
 
--- an input that goes on
+-- the input goes on, and the bytes end
 pub differs_past : (input : List ℕ) (at : ℕ) → at < length input → first_difference at (drop at input) [] ≡ Some at
 unfolding first_difference
 differs_past input at h = rw (drop_more input at 0 h) refl
@@ -51,7 +51,7 @@ stand_after input at mid end xs ys first second = record {
   within = second.within;
 }
 
--- an input that differs from a later part
+-- the input differs in a later part
 pub differs_later : (input : List ℕ) (at mid : ℕ) (xs ys : List ℕ) (offset : ℕ) → StandAt input at xs mid → DiffersFrom input mid ys offset → DiffersFrom input at (xs ++ ys) offset
 differs_later input at mid xs ys offset first second = λ after.
     ap (λ (rest : List ℕ). first_difference at rest ((xs ++ ys) ++ after)) first.there
@@ -60,16 +60,16 @@ differs_later input at mid xs ys offset first second = λ after.
     ∙ ap (λ n. first_difference n (drop mid input) (ys ++ after)) (sym first.end)
     ∙ second after
 
--- one that differs from an earlier part
+-- the input differs in an earlier part
 pub differs_sooner : (input : List ℕ) (at : ℕ) (xs ys : List ℕ) (offset : ℕ) → DiffersFrom input at xs offset → DiffersFrom input at (xs ++ ys) offset
 differs_sooner input at xs ys offset first = λ after.
     ap (λ (bytes : List ℕ). first_difference at (drop at input) bytes) (append_assoc xs ys after) ∙ first (ys ++ after)
 
--- with nothing after
+-- the input differs in bytes with nothing after them
 pub differs_alone : (input : List ℕ) (at : ℕ) (xs : List ℕ) (offset : ℕ) → DiffersFrom input at xs offset → IsDifference input at xs offset
 differs_alone input at xs offset all = ap (λ (bytes : List ℕ). first_difference at (drop at input) bytes) (sym (append-nil xs)) ∙ all []
 
--- an input that goes on after all parts
+-- the input goes on after all parts
 pub goes_on : (input : List ℕ) (at end : ℕ) (xs : List ℕ) → StandAt input at xs end → end < length input → first_difference at (drop at input) xs ≡ Some end
 goes_on input at end xs stand h =
     ap (λ (rest : List ℕ). first_difference at rest xs) stand.there
@@ -78,7 +78,7 @@ goes_on input at end xs stand h =
     ∙ ap (λ n. first_difference n (drop end input) []) (sym stand.end)
     ∙ differs_past input end h
 
--- one that ends there
+-- the input ends after all parts
 pub ends_there : (input : List ℕ) (at end : ℕ) (xs : List ℕ) → StandAt input at xs end → length input ≤ end → drop at input ≡ xs
 ends_there input at end xs stand h = stand.there ∙ ap (λ (rest : List ℕ). xs ++ rest) (drop_all end input h) ∙ append-nil xs
 
@@ -100,7 +100,7 @@ answer_differs (Err e) input from mid xs ys first second = differs_later input f
 
 -- ---- bytes that are held of a longer input
 
--- where a first difference is
+-- a first difference is at most at the end of the first list
 difference-within : (at : ℕ) (xs ys : List ℕ) (offset : ℕ) → first_difference at xs ys ≡ Some offset → offset ≤ at + length xs
 unfolding first_difference
 difference-within at [] [] offset e = absurd cc
@@ -115,7 +115,7 @@ difference-within at (x ∷ xs) (y ∷ ys) offset e = by_byte (x == y) (λ h. di
 pub differs-within : (held bytes : List ℕ) (offset : ℕ) → DiffersFrom held 0 bytes offset → offset ≤ length held
 differs-within held bytes offset differs = omega (arith, difference-within 0 held (bytes ++ []) offset (differs []))
 
--- places that are counted from elsewhere
+-- the same with places counted from elsewhere
 difference-shift : (from at : ℕ) (xs ys : List ℕ) (offset : ℕ) → first_difference at xs ys ≡ Some offset → first_difference (from + at) xs ys ≡ Some (from + offset)
 unfolding first_difference
 difference-shift from at [] [] offset e = absurd cc
@@ -128,7 +128,7 @@ difference-shift from at (x ∷ xs) (y ∷ ys) offset e = by_byte (x == y) (λ h
     by_byte true later e = ap (λ n. first_difference n xs ys) (omega arith) ∙ later e
     by_byte false later e = let same : at ≡ offset = cc in ap (λ n. Some (from + n)) same
 
--- an input that begins with other bytes than these, or ends before they do
+-- where the held bytes differ from these, so does the longer input
 difference-held : (at : ℕ) (held bytes more after : List ℕ) (offset : ℕ) → ((rest : List ℕ) → first_difference at held (bytes ++ rest) ≡ Some offset) → (length held < length bytes → more ≡ []) → first_difference at (held ++ more) (bytes ++ after) ≡ Some offset
 unfolding first_difference
 difference-held at held [] more after offset differs ends =
@@ -153,7 +153,7 @@ held_differs at held bytes more offset differs ends after =
 pub bytes_stand : (input xs : List ℕ) (from at i : ℕ) → length xs ≤ i → StandAt input from (take i xs) at → StandAt input from xs at
 bytes_stand input xs from at i all stand = stand_same input from at (take i xs) xs (take_all i xs all) stand
 
--- what the input begins with from there on
+-- the input begins with these bytes from there on
 pub begins_stand : (input : List ℕ) (at : ℕ) (bytes : List ℕ) (says : Bool) → at ≤ length input → says ≡ starts_with (λ x y. x == y) (take (length input - at) (drop at input)) bytes → says ≡ true → StandAt input at bytes (at + length bytes)
 begins_stand input at bytes says within is so =
     let rest : take (length input - at) (drop at input) ≡ drop at input = take_all (length input - at) (drop at input) (omega (arith, length-drop at input)) in

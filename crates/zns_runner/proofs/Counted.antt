@@ -1,4 +1,4 @@
--- What the summary of a history counts, one act more.
+-- What the summary of a history counts, with one more act.
 use Rattle.std.proofs.Common.{◌≡◌, ℕ, suc, get_or, ◌+◌, ◌*◌, ◌^◌, ◌<◌, ◌≤◌, Bool, true, false, map, List, [], ◌∷◌, ◌++◌, length, reverse, refl, sym, ap, ◌∙◌, inl, inr, subst, zero-add, arith}
 use Rattle.std.specs.Prelude.{not, ◌&&◌, ◌==◌, cond, sum, count_by}
 use Rattle.std.specs.List.{range_with_len}
@@ -28,7 +28,7 @@ use Rattle.zone_model.proofs.Merging.{count-cons}
 
 -- ---- what an act's entries tell
 
--- an act that posts no entry took
+-- an act that posts no entry succeeded
 pub none_posted : (g : GeometryFields) (h : List Place) (a : Act) → length (posted g h a) ≡ 0 → is_success (status g h a) ≡ true
 unfolding posted
 none_posted g h a none = elim (cases_Bool (waits g h a)) [
@@ -36,7 +36,7 @@ none_posted g h a none = elim (cases_Bool (waits g h a)) [
   | inr other ↦ absurd (omega (arith, rw other at none))
 ]
 
--- the first entry that an act posts has its status
+-- the first entry that an act posts has the act's status
 pub first_posted : (g : GeometryFields) (h : List Place) (a : Act) (entry : Cqe) → 0 < length (posted g h a) → entry ≡ get_or (posted g h a) 0 entry → entry.code ≡ status g h a
 unfolding posted
 first_posted g h a entry some is = elim (cases_Bool (waits g h a)) [
@@ -44,7 +44,7 @@ first_posted g h a entry some is = elim (cases_Bool (waits g h a)) [
   | inr other ↦ ap (λ (c : Cqe). c.code) (rw other at is)
 ]
 
--- both parts of a status that is success are 0
+-- a status is success exactly if both of its parts are 0
 pub both-is_success : (s : Status) → ((s.sct == 0) && (s.sc == 0)) ≡ is_success s
 both-is_success s = by_first (s.sct == 0) (s.sc == 0)
   where
@@ -59,7 +59,7 @@ unfolding answered_back
 length-answered_back g [] = refl
 length-answered_back g (a ∷ acts) = ap suc (length-answered_back g acts)
 
--- each act is answered
+-- a history has one place for each act
 pub length-answered : (g : GeometryFields) (acts : List Act) → length (answered g acts) ≡ length acts
 unfolding answered
 length-answered g acts = length-answered_back g (reverse acts) ∙ length-reverse acts
@@ -72,7 +72,7 @@ from_bool-one : (b : Bool) → from_bool b ≡ one b
 from_bool-one true = refl
 from_bool-one false = refl
 
--- an act either takes or is refused
+-- an act either succeeds or is refused
 pub one_of_both : (b : Bool) → from_bool b + from_bool (not b) ≡ 1
 one_of_both true = refl
 one_of_both false = refl
@@ -98,13 +98,13 @@ pointer-le g is acts z = omega (arith, (stands g is (deeds (answered g acts) z) 
 few_blocks : (g : GeometryFields) → IsGeometry g → g.zones * g.zone_size ≤ 2 ^ 28
 few_blocks g is = omega (arith, is.zones.namespace, le-mul_of_pos_right (g.zones * g.zone_size) (pow_pos g.block_exp))
 
--- so their sum is at most the blocks of the zones
+-- the sum of the pointers is at most the number of blocks in the zones
 sum-le : (g : GeometryFields) → IsGeometry g → (zone sum pointer : ℕ) → zone < g.zones → sum ≤ zone * g.zone_size → pointer ≤ g.zone_size → (sum + pointer ≤ (zone + 1) * g.zone_size) × (sum + pointer ≤ 2 ^ 28)
 sum-le g is zone sum pointer lt all one =
     let more : (zone + 1) * g.zone_size ≤ g.zones * g.zone_size = mul-le-mul_right g.zone_size (omega arith) in
     (omega (arith, add-mul zone 1 g.zone_size), omega (arith, add-mul zone 1 g.zone_size, more, few_blocks g is))
 
--- one zone more, which the drive's numbers have
+-- the same with one more zone of the drive
 pub zone-more : (g fields : GeometryFields) (acts : List Act) (zone sum last : ℕ) → fields ≡ g → IsGeometry fields → zone < fields.zones → sum ≤ zone * g.zone_size → last ≡ pointer g (answered g acts) zone
     → (sum + last ≤ (zone + 1) * g.zone_size) × (sum + last ≤ 2 ^ 28)
 zone-more g fields acts zone sum last same is lt all e =
@@ -113,13 +113,13 @@ zone-more g fields acts zone sum last same is lt all e =
     let one : last ≤ g.zone_size = rw e (pointer-le g valid acts zone) in
     sum-le g valid zone sum last below all one
 
--- the pointers of one zone more
+-- the sum of the pointers with one more zone
 pub pointers-more : (f : ℕ → ℕ) (n : ℕ) → sum (map f (range_with_len 0 (n + 1))) ≡ sum (map f (range_with_len 0 n)) + f n
 pointers-more f n = sum_by-map-range_with_len_more (λ x. x) f 0 n n (zero-add n)
 
 -- ---- all of them
 
--- the numbers that were counted at a drive that served a session are those of the session's history
+-- the totals of a drive that served a session are those of the session's history
 pub same_totals : (s : Recorded) (d : Drive) (commands success refused pointers_of : ℕ) → d.geometry ≡ s.geometry → d.acts ≡ s.acts → commands ≡ length s.acts
     → success ≡ count_by took (history d) → refused ≡ count_by (λ p. not (took p)) (history d) → pointers_of ≡ pointers d.geometry (history d)
     → record { commands = commands; success = success; refused = refused; active = active d.geometry (history d); opened = opened d.geometry (history d); windows = windows d.geometry (history d); pointers = pointers_of } ≡ totals s.geometry (answered s.geometry s.acts)

@@ -1,4 +1,4 @@
--- What the end of a run says, by what was made and by how it was written.
+-- What the end of a run means, by what was made and how it was written.
 use Rattle.std.proofs.Common.{◌≡◌, ℕ, List, Some, Result, Ok, Err, sym, subst, ◌∙◌, inl}
 use Rattle.std.specs.Prelude.{◌⊎◌}
 use Rattle.zns_io.specs.declared.bytes.Bytes.{Bytes}
@@ -12,11 +12,11 @@ use Rattle.zns_runner.specs.Making.{MakesByCount, GivesOutput, EndsBy}
 use Rattle.zns_runner.proofs.Ends.{ended, not_usage, same_end, same_output, output_called, end_called}
 use Rattle.zns_runner.proofs.ByCount.{AskForOne, ended_by_count, made_by_count}
 
--- how a run ends, between these moments
+-- how a run ends between these moments
 abbrev pub Ending : Result Bytes Status → Streams → Streams → Status → Type 0
 Ending r before now s = EndsBy r before.taken now.taken before.sink_faults now.sink_faults s
 
--- what was made, between these moments
+-- what is made between these moments
 abbrev pub Making : Task → Result Bytes Status → Streams → Streams → Type 0
 Making t r before now = GivesOutput t before.left now.left before.source_faults now.source_faults r
 
@@ -31,7 +31,7 @@ finished words t before now (Ok output) (status.TooLarge which number) asked mad
 finished words t before now (Ok output) (status.Differs offset) asked made ends = absurd ends
 finished words t before now (Err e) s asked made ends = subst (λ x. Means words before now x) (sym ends.0) (ended words t before now e asked ends.1 ends.2 made)
 
--- the words asked for something
+-- the status of a run that was asked for something is not Usage
 pub not_usage_end : (t : Task) (before now : Streams) (r : Result Bytes Status) (s : Status) → Making t r before now → Ending r before now s → s ≡ status.Usage → ⊥
 not_usage_end t before now (Ok output) status.Ok made ends is = absurd cc
 not_usage_end t before now (Ok output) status.NoMemory made ends is = ends
@@ -57,7 +57,7 @@ answered words t u before now (Err e) s one made ends = λ bytes answer asked to
     subst (λ x. (x ≡ answer) ⊎ (x ≡ status.NoMemory)) (sym ends.0)
     (end_called u before.left now.left before.source_faults now.source_faults e bytes answer (same_end t u before.left now.left before.source_faults now.source_faults e (one asked) made) told calls calm_source)
 
--- an output that was made is no refusal by the count
+-- a run with an output isn't refused for its number of commands
 no_refusal : (before now : Streams) (output : Bytes) (s : Status) (count : ℕ) → Ending (Ok output) before now s → s ≡ status.TooLarge which.Commands count → ⊥
 no_refusal before now output status.Ok count ends is = absurd cc
 no_refusal before now output status.NoMemory count ends is = ends

@@ -1,4 +1,4 @@
--- Which inputs are taken, and with what the others are refused.
+-- Which inputs are taken, and how the others are refused.
 use Rattle.std.proofs.Common.{◌≡◌, ℕ, ◌+◌, ◌*◌, ◌^◌, ◌<◌, ◌≤◌, true, false, List, [], ◌∷◌, ◌++◌, length, take, drop, Some, None, refl, sym, ap, subst, ◌∙◌, arith}
 use Rattle.std.proofs.lemmas.Bool.Decides.{nat_tests}
 use Rattle.std.proofs.lemmas.List.{append_assoc, take-append-drop}
@@ -36,7 +36,7 @@ use Rattle.zns_runner.specs.Making.{status_of, IsCause}
 
 -- ---- the length of an input
 
--- an input that isn't too long breaks the other rules only
+-- an input that isn't too long can break only the other rules
 pub short_input : (bytes : List ℕ) (rows : List (Row FileErr)) → length bytes ≤ 2 ^ 29 → first_holding (input_row bytes ∷ rows) ≡ first_holding rows
 short_input bytes rows few =
     let fits : nat_lt (2 ^ 29) (length bytes) ≡ false = grind (arith, nat_tests) in
@@ -47,7 +47,7 @@ long_input bytes rows many =
     let long : nat_lt (2 ^ 29) (length bytes) ≡ true = grind (arith, nat_tests) in
     rw long refl
 
--- one that is too long breaks the first rule
+-- an input that is too long breaks the first rule
 pub too_long : (t : Task) (left : Option (List ℕ)) → ¬ (MakesSession t) → IsByLimit left (2 ^ 29) (Err errors.Over) → CallsForOf t (input_of t left) (status.TooLarge which.Input (2 ^ 29 + 1))
 too_long the_task.One None reading over = tt
 too_long the_task.Run None reading over = tt
@@ -69,20 +69,20 @@ reads the_task.Show left now input reading all = all
 reads the_task.Host left now input reading all = all
 reads (the_task.Gen number count) left now input reading all = absurd (reading tt)
 
--- nothing was read of a source that stayed
+-- nothing was read of a source that is unchanged
 pub none_read : (left : Option (List ℕ)) (most : ℕ) → ReadsFrontUpTo left left most
 none_read None most = (0, omega arith, tt)
 none_read (Some bytes) most = (0, omega arith, (omega arith, refl))
 
 -- ---- sessions that are made
 
--- few enough commands break no rule
+-- a session with few enough commands breaks no rule
 pub made_unbroken : (count : ℕ) → count ≤ 262144 → first_holding (made_rows count) ≡ None
 made_unbroken count few =
     let fits : nat_lt 262144 count ≡ false = grind (arith, nat_tests) in
     rw fits refl
 
--- too many do
+-- a session with too many commands does
 pub made_broken : (count : ℕ) → 262144 < count → first_holding (made_rows count) ≡ Some (Large which.Commands count)
 made_broken count many =
     let more : nat_lt 262144 count ≡ true = grind (arith, nat_tests) in
@@ -96,7 +96,7 @@ unbroken s bytes is e =
     let few : length bytes ≤ 2 ^ 29 = rw e (spelled_size s is) in
     short_input bytes (file_rows bytes) few ∙ spelled_unbroken s bytes is e
 
--- a task that takes a session reads it,
+-- a task that takes a session reads it
 pub takes-reads : (t : Task) → TakesSession t → ¬ (MakesSession t)
 takes-reads the_task.One takes = λ none. none
 takes-reads the_task.Run takes = λ none. none
@@ -105,7 +105,7 @@ takes-reads the_task.Show takes = λ none. none
 takes-reads the_task.Host takes = absurd takes
 takes-reads (the_task.Gen number count) takes = absurd takes
 
--- by the rules of a session
+-- a task that takes a session goes by the rules of a session
 takes-rules : (t : Task) (input : List ℕ) → TakesSession t → rules_for t input ≡ session_rows input
 takes-rules the_task.One input takes = refl
 takes-rules the_task.Run input takes = refl
@@ -117,7 +117,7 @@ takes-rules (the_task.Gen number count) input takes = absurd takes
 session_refusal : (t : Task) (input : List ℕ) (e : FileErr) → TakesSession t → length input ≤ 2 ^ 29 → first_holding (file_rows input) ≡ Some e → IsRefusal t input e
 session_refusal t input e takes few first = ap first_holding (takes-rules t input takes) ∙ (short_input input (file_rows input) few ∙ first)
 
--- an error in a session is the first rule that is broken
+-- the error in a session is that of the first broken rule
 pub session_cause : (t : Task) (input : List ℕ) (e : FileErr) → TakesSession t → length input ≤ 2 ^ 29 → IsFirstOf (file_rows input) e → IsCause t input (status_of e)
 session_cause t input NoMemory takes few first = tt
 session_cause t input (Bad reason offset) takes few first = session_refusal t input (Bad reason offset) takes few first
@@ -139,7 +139,7 @@ host_cause input (Large which number) few first = short_input input (script_rows
 
 -- ---- results
 
--- the rules of a session, and of an order after it
+-- the rules of a session followed by an order of its acts
 abbrev rest_rows : List ℕ → List (Row FileErr)
 rest_rows bytes = result_rows bytes (session_end bytes) (session_in bytes).acts
 
@@ -148,11 +148,11 @@ check_cause input NoMemory few first = tt
 check_cause input (Bad reason offset) few first = short_input input (front_rows input ++ rest_rows input) few ∙ first
 check_cause input (Large which number) few first = short_input input (front_rows input ++ rest_rows input) few ∙ first
 
--- an error in the session is the first rule that is broken
+-- the error in the session is that of the first broken rule
 pub front_cause : (input : List ℕ) (e : FileErr) → length input ≤ 2 ^ 29 → IsFirstOf (front_rows input) e → IsCause the_task.Check input (status_of e)
 front_cause input e few first = check_cause input e few (first_of-front (front_rows input) (rest_rows input) e first)
 
--- a session was read, and it ends there
+-- the input begins with a session, which ends there
 pub record WasFront (input : List ℕ) (s : Recorded) (from : ℕ) : Type 0 where
   pub valid : IsSession s
   pub spelled : spells s (take from input)
@@ -162,7 +162,7 @@ pub record WasFront (input : List ℕ) (s : Recorded) (from : ℕ) : Type 0 wher
 pub front_spelled : (input : List ℕ) (s : Recorded) (from : ℕ) → WasFront input s from → input ≡ spelling s ++ drop from input
 front_spelled input s from was = sym (take-append-drop from input) ∙ ap (λ (front : List ℕ). front ++ drop from input) was.spelled
 
--- and so is an error in the order
+-- the error in the order is that of the first broken rule
 pub order_cause : (input : List ℕ) (s : Recorded) (from : ℕ) (e : FileErr) → length input ≤ 2 ^ 29 → WasFront input s from → IsFirstOf (result_rows input from s.acts) e → IsCause the_task.Check input (status_of e)
 order_cause input s from e few was first =
     let begins : BeginsWith input s (drop from input) = begins_with input s (drop from input) was.valid (front_spelled input s from was) in
@@ -178,7 +178,7 @@ length-flat_map_two (q ∷ queues) = let rest : length (flat_map (little_bytes 2
 pub length-order_bytes : (order : List ℕ) → length (order_bytes order) ≡ 12 + 2 * length order
 length-order_bytes order = omega (arith, length-flat_map_two order)
 
--- an order was read after it
+-- the input has an order after the session
 pub record WasOrder (input : List ℕ) (s : Recorded) (from : ℕ) (order : List ℕ) : Type 0 where
   pub front : WasFront input s from
   pub short : length input ≤ 2 ^ 29
@@ -198,7 +198,7 @@ result_read input s from order was = record {
 four_parts : (a b c d : List ℕ) → ((a ++ b) ++ c) ++ d ≡ a ++ (b ++ (c ++ d))
 four_parts a b c d = simp append_assoc
 
--- what a session gives is its order, and what comes after
+-- the result of a session is its order, and what comes after that
 pub result_of-parts : (s : Recorded) (order : List ℕ) → result_of s order ≡ order_bytes order ++ bytes_after_order s order
 unfolding result_bytes
 result_of-parts s order = four_parts (order_bytes order) _ _ _

@@ -24,7 +24,7 @@ use Rattle.zns_runner.specs.Answers.{IsBegun}
 use Rattle.zns_runner.proofs.Inputs.{too_long, reads, none_read, takes-reads, session_cause, front_cause}
 use Rattle.zns_runner.proofs.Joined.{joined_all, all_front, front_then, joined_over}
 
--- what was read calls for an answer, and so does what was told
+-- the input that was read whole calls for the same answer as what the source told
 all_told : (t : Task) (left now : Option (List ℕ)) (input : List ℕ) (s : Status) → ReadsAll left now input → CallsFor t input s → CallsForOf t left s
 all_told t None now input s read calls = tt
 all_told t (Some before) now input s read calls = let P : List ℕ → Type 0 = λ bytes. CallsFor t bytes s in subst P read.0 calls
@@ -54,26 +54,26 @@ gives_output t left now faults faults_now input (Err (status.Differs offset)) re
 
 -- ---- sessions
 
--- what was read whole spells a session
+-- the input that was read whole spells a session
 pub read_session : (left now : Option (List ℕ)) (input : List ℕ) (s : Recorded) → IsSession s → spells s input → ReadsAll left now input → ReadsFrontUpTo left now (2 ^ 29 + 1) → IsSessionRead left now s
 read_session left now input s valid spelled read front = record { valid = valid; read = subst (ReadsAll left now) spelled read; front = front }
 
--- what a task makes of a session that was read
+-- the output of a task for a session that was read
 pub session_output : (t : Task) (left now : Option (List ℕ)) (s : Recorded) (output : List ℕ) → TakesSession t → IsSessionRead left now s → IsOutputFor t (spelling s) output → IsOutputOf t left now output
 session_output t left now s output takes is made = record { input = spelling s; read = reads t left now (spelling s) (takes-reads t takes) is.read; made = made }
 
--- an input that is no session
+-- the input isn't a session
 pub no_session : (t : Task) (left now : Option (List ℕ)) (faults faults_now : ℕ) (input : List ℕ) (e : FileErr) → TakesSession t → IsInput t left now input → IsFirstOf (file_rows input) e → EndsBefore t left now faults faults_now (status_of e)
 no_session t left now faults faults_now input e takes is first = gives_output t left now faults faults_now input (Err (status_of e)) is.read is.front (session_cause t input e takes is.short first)
 
--- an answer that ends with the error of a reading that gave no session
+-- reading gave no session, and the run ends with that error
 pub session_ends : (t : Task) (left now : Option (List ℕ)) (faults faults_now : ℕ) (e : Status) (result : Result Bytes Status) → TakesSession t → GivesSession left now faults faults_now (Err e) → IsErrAnd result (λ s. s ≡ e) → GivesOutput t left now faults faults_now result
 session_ends t left now faults faults_now e (Ok output) takes ends is = absurd is
 session_ends t left now faults faults_now e (Err s) takes ends is = subst (λ x. EndsBefore t left now faults faults_now x) (sym is) (ends t takes)
 
 -- ---- an input whose front came already
 
--- reading the rest of it ended
+-- an error of reading the rest
 pub reading_ends : (t : Task) (first left now : Option (List ℕ)) (front : List ℕ) (faults faults_now : ℕ) (e : ReadErr) → ¬ (MakesSession t) → Consumes first left front → length front ≤ 2 ^ 29 → IsByLimit left (2 ^ 29 - length front) (Err e)
     → ReadsFrontUpTo left now (2 ^ 29 - length front + 1) → (e ≡ read_err.Failed → Rose faults faults_now) → EndsBefore t first now faults faults_now (status_of_reading e)
 reading_ends t first left now front faults faults_now read_err.NoMemory reading came few limit read fault = front_then first left now front _ (2 ^ 29 + 1) came read (omega (arith, few))
@@ -83,7 +83,7 @@ reading_ends t first left now front faults faults_now read_err.Over reading came
   read = front_then first left now front _ (2 ^ 29 + 1) came read (omega (arith, few));
 }
 
--- it was read to its end
+-- the rest was read to its end
 pub input_read : (t : Task) (first left now : Option (List ℕ)) (front rest : List ℕ) → ¬ (MakesSession t) → Consumes first left front → length front ≤ 2 ^ 29 → length rest ≤ 2 ^ 29 - length front → ReadsAll left now rest → IsInput t first now (front ++ rest)
 input_read t first left now front rest reading came few limit read =
     let all : ReadsAll first now (front ++ rest) = joined_all first left now front rest came read in
@@ -93,19 +93,19 @@ input_read t first left now front rest reading came few limit read =
       front = all_front first now (front ++ rest) (2 ^ 29 + 1) all (omega (arith, length-append front rest, few, limit));
     }
 
--- nothing came already
+-- the front is empty
 pub none_came : (left : Option (List ℕ)) (front : List ℕ) → front ≡ [] → Consumes left left front
 none_came None front none = tt
 none_came (Some told) front none = rw none refl
 
--- an answer that ends with the error of a reading that gave no input
+-- reading gave no input, and the run ends with that error
 pub input_ends : (t : Task) (left now : Option (List ℕ)) (faults faults_now : ℕ) (e : Status) (result : Result Bytes Status) → EndsBefore t left now faults faults_now e → IsErrAnd result (λ s. s ≡ e) → GivesOutput t left now faults faults_now result
 input_ends t left now faults faults_now e (Ok output) ends is = absurd is
 input_ends t left now faults faults_now e (Err s) ends is = subst (λ x. EndsBefore t left now faults faults_now x) (sym is) ends
 
 -- ---- a session, and what comes after it
 
--- what was read whole begins with it
+-- the input that was read whole begins with the session
 front_came : (left now : Option (List ℕ)) (input : List ℕ) (s : Recorded) (at : ℕ) → spells s (take at input) → ReadsAll left now input → Consumes left now (spelling s ++ drop at input)
 front_came None now input s at spelled read = tt
 front_came (Some told) now input s at spelled read =
@@ -120,7 +120,7 @@ front_begun left now input s at valid spelled within read = record {
   read = front_came left now input s at spelled read;
 }
 
--- an input that doesn't begin with one
+-- the input doesn't begin with a session
 pub no_front : (left now : Option (List ℕ)) (faults faults_now : ℕ) (input : List ℕ) (e : FileErr) → IsInput the_task.Check left now input → IsFirstOf (front_rows input) e → EndsBefore the_task.Check left now faults faults_now (status_of e)
 no_front left now faults faults_now input e is first = gives_output the_task.Check left now faults faults_now input (Err (status_of e)) is.read is.front (front_cause input e is.short first)
 

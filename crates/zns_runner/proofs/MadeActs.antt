@@ -1,4 +1,4 @@
--- The acts that are made one after the other are a session.
+-- The acts that are made one after another are a session.
 use Rattle.std.proofs.Common.{◌≡◌, ℕ, zero, suc, ◌+◌, ◌-◌, ◌*◌, ◌<◌, ◌≤◌, List, [], ◌∷◌, ◌++◌, length, All, refl, sym, ap, ◌∙◌, arith}
 use Rattle.std.proofs.lemmas.List.{append_assoc}
 use Rattle.std.proofs.lemmas.List.Elements.{All-head, All-tail}
@@ -24,7 +24,7 @@ made_geometry-has_widths = record { active_limit = omega arith; open_limit = ome
 
 -- ---- one act more
 
--- acts were made, and those that are left are made from here
+-- one more act was made, and the rest is made from the next state
 pub one_more : (count i x : ℕ) (all acts : List Act) → i < count → all ≡ acts ++ made_acts (count - i) i x → all ≡ (acts ++ made_act i x ∷ []) ++ made_acts (count - (i + 1)) (i + 1) (nth_next 4 x)
 one_more count i x all acts lt e =
     let left : count - i ≡ suc (count - (i + 1)) = omega arith in

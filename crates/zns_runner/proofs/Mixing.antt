@@ -18,7 +18,7 @@ use Rattle.zns_runner.specs.Queues.{AreQueues}
 pub queues-none : (queues : List (List Act)) → queues ≡ [] → AreQueues 0 [] queues
 queues-none queues none = record { long = ap length none; each = λ queue few d. absurd (omega (arith, few)) }
 
--- one queue more, without acts
+-- one more queue, without acts
 pub queues-one : (count : ℕ) (queues grown : List (List Act)) (new : List Act) → AreQueues count [] queues → new ≡ [] → grown ≡ queues ++ new ∷ [] → AreQueues (count + 1) [] grown
 queues-one count queues grown new are empty e = record {
   long = ap length e ∙ length_push queues new ∙ ap (λ n. n + 1) are.long;
@@ -34,7 +34,7 @@ queues-one count queues grown new are empty e = record {
 pub queues-count : (count other : ℕ) (queues : List (List Act)) → count ≡ other → AreQueues count [] queues → AreQueues other [] queues
 queues-count count other queues same are = let P : ℕ → Type 0 = λ n. AreQueues n [] queues in subst P same are
 
--- one act more of a queue
+-- one more act on a queue
 pub queue-more : (count : ℕ) (acts : List Act) (a : Act) (queues : List (List Act)) (new : List Act) → a.queue < count → AreQueues count acts queues → new ≡ get_or queues a.queue [] ++ a ∷ [] → AreQueues count (acts ++ a ∷ []) (set queues a.queue new)
 queue-more count acts a queues new small are grown = record {
   long = length-set queues a.queue new ∙ are.long;
@@ -53,12 +53,12 @@ queue-more count acts a queues new small are grown = record {
         let unlike : queue ≢ a.queue = grind (arith, nat_tests) in
         get_or-set_other queues a.queue queue new d unlike ∙ are.each queue few d ∙ sym (append-nil (acts_of queue acts))
 
--- a queue that has a next act
+-- a queue begins with its next act
 pub queue-next : (count : ℕ) (acts : List Act) (queue : ℕ) (queues : List (List Act)) (d : List Act) → queue < count → AreQueues count acts queues → (has : HasNext queue acts) → get_or queues queue d ≡ has.act ∷ acts_of queue (rest_of queue acts)
 queue-next count acts queue queues d small are has =
     are.each queue small d ∙ has.next.acts_of queue ∙ ap (λ b. with_one b has.act (acts_of queue (rest_of queue acts))) has.next.of_queue
 
--- and without it
+-- a queue without its next act
 pub queue-less : (count : ℕ) (acts : List Act) (queue : ℕ) (queues : List (List Act)) (new : List Act) → queue < count → AreQueues count acts queues → HasNext queue acts → new ≡ acts_of queue (rest_of queue acts) → AreQueues count (rest_of queue acts) (set queues queue new)
 queue-less count acts queue queues new small are has left = record {
   long = length-set queues queue new ∙ are.long;
@@ -102,7 +102,7 @@ counted-at (queue ∷ order) (suc i) h =
     let rest : 0 < count_by (λ q. q == get_or order i 0) order = counted-at order i (omega arith) in
     omega (arith, count-cons (λ q. q == get_or order i 0) queue order, rest)
 
--- an order of acts on so many queues names no other
+-- an order of acts on `count` queues names no other queue
 pub order-few : (count : ℕ) (acts : List Act) (order : List ℕ) (i : ℕ) → All (λ (a : Act). a.queue < count) acts → IsOrder acts order → i < length order → get_or order i 0 < count
 order-few count acts order i few is h =
     let queue = get_or order i 0 in
@@ -111,7 +111,7 @@ order-few count acts order i few is h =
     let P : ℕ → Type 0 = λ q. q < count in
     subst P (eqb-true has.act.queue queue has.next.of_queue) small
 
--- what holds of all acts holds of them in any order
+-- what holds of all acts holds of them in any order of queues
 merged-recursion : (P : Act → Type 0) (acts : List Act) (order : List ℕ) → AllByRecursion P acts → AllByRecursion P (merged acts order)
 merged-recursion P acts [] all = tt
 merged-recursion P acts (queue ∷ order) all = by_next (next_of queue acts) refl (merged-recursion P (rest_of queue acts) order (rest-all P queue acts all))
@@ -123,7 +123,7 @@ merged-recursion P acts (queue ∷ order) all = by_next (next_of queue acts) ref
 pub merged-all : (P : Act → Type 0) (acts : List Act) (order : List ℕ) → All P acts → All P (merged acts order)
 merged-all P acts order all = All-from_recursion P (merged acts order) (merged-recursion P acts order (recursion_from_All P acts all))
 
--- ---- so many places of an order
+-- ---- the first places of an order
 
 -- The acts of the first places were taken from their queues, and the rest is an order of the acts that are left.
 pub record Mixes (count : ℕ) (acts : List Act) (order : List ℕ) (number : ℕ) (queues : List (List Act)) (mixed : List Act) : Type 0 where

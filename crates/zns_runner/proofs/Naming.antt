@@ -18,7 +18,7 @@ words_name the_task.Show has = refl
 words_name the_task.Host has = refl
 words_name (the_task.Gen number count) has = rw (number_in-decimal (decimal number) number refl has.0, number_in-decimal (decimal count) count refl has.1) refl
 
--- words that ask for a task ask for an equal one
+-- words that ask for a task ask for any task equal to it
 ask_for : (words : List (List ℕ)) (found t : Task) → AskFor words found → Some found ≡ Some t → AskFor words t
 ask_for words found t asked named = let is : found ≡ t = cc in subst (AskFor words) is asked
 
@@ -67,7 +67,7 @@ names_its_words (word ∷ number ∷ count ∷ other ∷ words) t named = absurd
 pub named_by : (words : List (List ℕ)) (t : Task) → AskFor words t → task_named words ≡ Some t
 named_by words t asked = ap task_named asked.same ∙ words_name t asked.numbers
 
--- so a task that was found is asked for, and one that is asked for was found
+-- a task that is found is asked for
 pub some_named : (words : List (List ℕ)) (found : Option Task) → found ≡ task_named words → IfSome found (AskFor words)
 some_named words None is = tt
 some_named words (Some t) is = names_its_words words t (sym is)

@@ -1,4 +1,4 @@
--- The order of the file, and what is written of acts one after the other.
+-- The order of the file, and what is written of acts one after another.
 use Rattle.std.proofs.Common.{◌≡◌, ℕ, ◌+◌, List, [], ◌∷◌, ◌++◌, refl, sym, ap, ◌∙◌}
 use Rattle.std.specs.Prelude.{◌==◌}
 use Rattle.std.proofs.lemmas.Bool.{eq-eqb}
@@ -27,7 +27,7 @@ pub merged-own_order : (acts : List Act) → merged acts (own_order acts) ≡ ac
 merged-own_order [] = refl
 merged-own_order (a ∷ acts) = rw (eq-eqb a.queue a.queue refl) (ap (λ (more : List Act). a ∷ more) (merged-own_order acts))
 
--- what is written of one act after a history
+-- what is written of an act after a history
 abbrev pub act_bytes : GeometryFields → List Place → Act → List ℕ
 act_bytes g h a = reply_part (posted g h a) (reply_bytes g h a)
 
@@ -40,7 +40,7 @@ pushed g h pre (b ∷ mid) a e =
     ap (λ (tail : List ℕ). act_bytes g h b ++ tail) (rest ∙ ap (λ (acts : List Act). replies_bytes g (and_then g h b) mid ++ act_bytes g (answered g acts) a) joined)
     ∙ sym (append_assoc (act_bytes g h b) (replies_bytes g (and_then g h b) mid) (act_bytes g (answered g (pre ++ b ∷ mid)) a))
 
--- one act more
+-- what is written of one more act
 pub replies_bytes-push : (g : GeometryFields) (acts : List Act) (a : Act) → replies_bytes g [] (acts ++ a ∷ []) ≡ replies_bytes g [] acts ++ act_bytes g (answered g acts) a
 unfolding answered answered_back
 replies_bytes-push g acts a = pushed g [] [] acts a refl

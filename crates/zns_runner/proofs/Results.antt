@@ -14,7 +14,7 @@ use Rattle.zns_runner.specs.Sessions.{IsOwnResult}
 use Rattle.zns_runner.specs.Serving.{AreReplies}
 use Rattle.zns_runner.proofs.Orders.{own_order-is_order, merged-own_order}
 
--- what the parts of a drive make that served acts in their own order
+-- the parts of the result of a drive that served acts in their own order
 pub whole : (g : GeometryFields) (acts : List Act) (replies : List Reply) (zones page : List ℕ) → AreReplies g acts replies
     → zones ≡ bytes_of_all (descriptors g (answered g acts)) → page ≡ changed_page g (changed g (answered g acts))
     → result_parts (own_order acts) replies zones page ≡ result_bytes g (own_order acts) acts
@@ -25,7 +25,7 @@ whole g acts replies zones page are zones_are page_is = rw (are.bytes, zones_are
 pub own_result : (s : Recorded) → IsOwnResult s (result_bytes s.geometry (own_order s.acts) s.acts)
 own_result s = record { each_once = own_order-is_order s.acts; spelled = ap (result_bytes s.geometry (own_order s.acts)) (sym (merged-own_order s.acts)) }
 
--- what holds of a list holds of an answer that is this list
+-- what holds of a list holds of a result that is this list
 pub answer_has : {E : Type 0} (r : Result (List ℕ) E) (x : List ℕ) (P : List ℕ → Type 0) → IfOk r (λ b. b ≡ x) → P x → IfOk r P
 answer_has (Ok b) x P is has = subst P (sym is) has
 answer_has (Err error) x P is has = is

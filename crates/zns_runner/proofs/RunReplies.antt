@@ -1,4 +1,4 @@
--- What is written of replies that are the responses to all acts.
+-- What is written of the replies that answer all acts.
 use Rattle.std.proofs.Common.{◌≡◌, ℕ, suc, List, [], ◌∷◌, ◌++◌, length, map, refl, sym, ap, ◌∙◌, subst}
 use Rattle.std.proofs.lemmas.List.{length-map}
 use Rattle.std.specs.List.{flat_map}
@@ -48,7 +48,7 @@ are_replies g acts replies respond = record {
   bytes = parts g [] [] acts replies refl respond.are;
 }
 
--- the result file of an outcome is one of its session
+-- the result file of an outcome is a result of its session
 pub is_run : (s : Recorded) (o : Outcome) → Runs s o → IsRun s (result_bytes o.drive.geometry (own_order o.drive.acts) o.drive.acts)
 is_run s o runs =
     let order : List ℕ = own_order o.drive.acts in

@@ -1,4 +1,4 @@
--- What is written of acts that are served one after the other, one more.
+-- What is written of acts that are served one after another, with one more.
 use Rattle.std.proofs.Common.{◌≡◌, ℕ, List, [], ◌∷◌, ◌++◌, refl, sym, ap, ◌∙◌}
 use Rattle.std.proofs.lemmas.List.{append_assoc}
 use Rattle.zns_types.specs.declared.fields.GeometryFields.{GeometryFields}
@@ -16,7 +16,7 @@ one_act_more g acts a start file next f n =
     ∙ append_assoc start (replies_bytes g [] acts) (act_bytes g (answered g acts) a)
     ∙ ap (λ (b : List ℕ). start ++ b) (sym (replies_bytes-push g acts a))
 
--- and the whole file, once all are served
+-- the whole file, once all acts are served
 pub all_served : (g : GeometryFields) (acts : List Act) (file zones page : List ℕ) → file ≡ order_bytes (own_order acts) ++ replies_bytes g [] acts
     → zones ≡ bytes_of_all (descriptors g (answered g acts)) → page ≡ changed_page g (changed g (answered g acts))
     → file ++ zones ++ page ≡ result_bytes g (own_order acts) acts

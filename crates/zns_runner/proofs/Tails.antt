@@ -1,4 +1,4 @@
--- An input whose front was taken, while the rest of it comes from a source.
+-- An input whose front was taken, while the rest still comes from a source.
 use Rattle.std.proofs.Common.{◌≡◌, ℕ, ◌+◌, ◌<◌, ◌≤◌, List, [], ◌++◌, length, take, drop, Option, Some, None, refl, sym, ap, subst, ◌∙◌, arith}
 use Rattle.std.proofs.lemmas.List.{append_assoc, take-append-drop, drop_at, length-append, length-take, drop-drop}
 use Rattle.std.specs.Io.KnownBytes.{Consumes, IsAtEnd}
@@ -21,7 +21,7 @@ stays_here left t = λ input is. is
 pub stays_then : (left mid now : Option (List ℕ)) (a b c : TailBytes) → StaysIn left mid a b → StaysIn mid now b c → StaysIn left now a c
 stays_then left mid now a b c first second = λ input is. second input (first input is)
 
--- a piece more was read
+-- one more piece was read
 pub stays_read : (left now : Option (List ℕ)) (old new : TailBytes) → GoesOn left now old.held new.held → new.at ≡ old.at → StaysIn left now old new
 stays_read left now old new more same = λ input is. record {
   front = is.front;
@@ -40,7 +40,7 @@ stays_taken left old new count few held at = λ input is.
       came = subst (Consumes (Some input) left) same is.came;
     }
 
--- what is left of the input: what is held, and then the rest
+-- the rest of the input: the held bytes, and then what the source still gives
 pub record HasLeft (input : List ℕ) (left : Option (List ℕ)) (t : TailBytes) : Type 0 where
   pub more : List ℕ
   pub whole : drop t.at input ≡ t.held ++ more
@@ -76,7 +76,7 @@ next_then left mid old between new xs ys stays first second = record {
 pub others_same : (left : Option (List ℕ)) (old : TailBytes) (xs ys : List ℕ) (offset : ℕ) → xs ≡ ys → ComeOthers left old xs offset → ComeOthers left old ys offset
 others_same left old xs ys offset same others = let P : List ℕ → Type 0 = λ bytes. ComeOthers left old bytes offset in subst P same others
 
--- other bytes came at first, or after some
+-- other bytes came in the first part
 pub others_sooner : (left : Option (List ℕ)) (old : TailBytes) (xs ys : List ℕ) (offset : ℕ) → ComeOthers left old xs offset → ComeOthers left old (xs ++ ys) offset
 others_sooner left old xs ys offset others = λ input is. differs_sooner input old.at xs ys offset (others input is)
 
@@ -86,7 +86,7 @@ others_later left mid old between xs ys offset stays first others = λ input is.
 
 -- ---- bytes that are held are compared
 
--- they stand at the front of what is held, and are taken
+-- the bytes are at the front of the held bytes, and are taken
 pub held_next : (left mid : Option (List ℕ)) (old filled new : TailBytes) (bytes : List ℕ) (end : ℕ) → StaysIn left mid old filled → filled.at ≡ old.at → StandAt filled.held 0 bytes end → new.held ≡ drop end filled.held → new.at ≡ filled.at + end → ComeNext left old new bytes
 held_next left mid old filled new bytes end stays same stand held at = record {
   at = omega (arith, at, same, stand.end);
@@ -106,7 +106,7 @@ held_next left mid old filled new bytes end stays same stand held at = record {
     drop-drop-after : (n k : ℕ) (xs : List ℕ) → drop k (drop n xs) ≡ drop (n + k) xs
     drop-drop-after n k xs = drop-drop k n xs ∙ ap (λ (m : ℕ). drop m xs) (omega arith)
 
--- others stand there, or the input ends
+-- other bytes are there, or the input ends
 pub held_others : (left mid : Option (List ℕ)) (old filled : TailBytes) (bytes : List ℕ) (offset : ℕ) → StaysIn left mid old filled → filled.at ≡ old.at → DiffersFrom filled.held 0 bytes offset → (length filled.held < length bytes → IsAtEnd mid)
     → ComeOthers left old bytes (filled.at + offset)
 held_others left mid old filled bytes offset stays same differs ends = λ input is after.
@@ -117,18 +117,18 @@ held_others left mid old filled bytes offset stays same differs ends = λ input 
 
 -- ---- errors
 
--- a count that rose from a later number rose from an earlier one
+-- a count that rose from a later value rose from an earlier one
 pub rose_from : (first mid now : ℕ) → first ≤ mid → Rose mid now → Rose first now
 rose_from first mid now few rose = omega (arith, few, rose)
 
--- what is said of a difference may follow from something else
+-- what is said of a difference may be replaced by what follows from it
 pub stops_so : (first mid now : ℕ) (new : TailBytes) (P Q : ℕ → Type 0) (e : CompareErr) → first ≤ mid → ((offset : ℕ) → P offset → Q offset) → StopsBy mid now new P e → StopsBy first now new Q e
 stops_so first mid now new P Q compare_err.NoMemory few so stops = tt
 stops_so first mid now new P Q compare_err.Failed few so stops = rose_from first mid now few stops
 stops_so first mid now new P Q compare_err.Over few so stops = stops
 stops_so first mid now new P Q (compare_err.Differs offset) few so stops = so offset stops
 
--- reading ended
+-- an error of reading
 pub stops_reading : (first now : ℕ) (new : TailBytes) (P : ℕ → Type 0) (e : ReadErr) → (e ≡ read_err.Over → IsOver new) → (e ≡ read_err.Failed → Rose first now) → StopsBy first now new P (compare_err_of e)
 stops_reading first now new P read_err.NoMemory over fault = tt
 stops_reading first now new P read_err.Failed over fault = fault refl

@@ -28,7 +28,7 @@ one_write-shown : shown one_write
 unfolding digits encode_with io_command admin_command shown
 one_write-shown = refl
 
--- what such a session leaves
+-- the summary of this session
 one_write-summary : summary one_write
     ≡ codes "commands 1" ++ 10 ∷ codes "success 1" ++ 10 ∷ codes "refused 0" ++ 10 ∷ codes "active 1" ++ 10 ∷ codes "open 1" ++ 10 ∷ codes "windows 0" ++ 10 ∷ codes "pointers 1" ++ 10 ∷ []
 unfolding io_command admin_command deeds pointer_since state_of window_of block_of attributes_of counted closed_zones had_excursion cleared waited changed_zone changed enabled masked pending waiting status evicted zone_deed fires answer answered_back answered digits summary
@@ -39,7 +39,8 @@ none-summary : summary (made 5 0)
 unfolding io_command admin_command deeds pointer_since state_of window_of block_of attributes_of counted closed_zones had_excursion cleared waited changed_zone changed enabled masked pending waiting status evicted zone_deed fires answer answered_back answered digits summary made
 none-summary = refl
 
--- the first commands that the number 1 makes: their queues, command numbers, commands, and the bytes that they repeat
+-- the first commands of the session that the number 1 determines: their queues, command numbers, commands, and the bytes that their host
+-- data repeats
 abbrev pub made_from_1 : List Act
 made_from_1 = made_acts 8 0 1
 

@@ -1,4 +1,4 @@
--- What a check finds of an input whose session was taken, while the rest of it comes from a source.
+-- What a check finds in an input whose session was taken, while the rest still comes from a source.
 use Rattle.std.specs.Prelude.{◌≡◌, ℕ, ◌^◌, ◌≤◌, List, [], ◌++◌, length, take, Option}
 use Rattle.std.specs.Io.KnownBytes.{Consumes, IsAtEnd}
 use Rattle.zns_io.specs.Faults.{Rose}
@@ -9,13 +9,13 @@ use Rattle.zns_runner.specs.declared.task.Task.TheVariants as the_task
 use Rattle.zns_runner.specs.Outcomes.{CallsFor}
 use Rattle.zns_runner.specs.Tails.{TailBytes, IsIn, ComeNext}
 
--- a session was taken of a source, and the rest is still to come
+-- a session was taken from a source, and the rest is still to come
 pub record IsBegun (left now : Option (List ℕ)) (s : Recorded) (t : TailBytes) : Type 0 where
   pub valid : IsSession s
   pub long : t.at ≡ length (spelling s)
   pub read : Consumes left now (spelling s ++ t.held)
 
--- the rest is what the session gives in an order
+-- the rest was read to its end, and is what the session gives in an order of its acts
 pub record IsConfirmedBy (left now : Option (List ℕ)) (old new : TailBytes) (s : Recorded) : Type 0 where
   pub order : List ℕ
   pub each_once : IsOrder s.acts order
@@ -28,7 +28,7 @@ pub record IsConfirmedBy (left now : Option (List ℕ)) (old new : TailBytes) (s
 abbrev pub CallsFrom : Option (List ℕ) → TailBytes → Recorded → Status → Type 0
 CallsFrom left old s answer = (input : List ℕ) → IsIn input left old → spells s (take old.at input) → length input ≤ 2 ^ 29 → CallsFor the_task.Check input answer
 
--- What a status says that ends a check: of a refusal or a difference what is said of the answer.
+-- What a status that ends a check says. A refusal or a difference satisfies `Calls`.
 abbrev pub Answers : ℕ → ℕ → (Status → Type 0) → Status → Type 0
 Answers faults faults_now Calls status.Ok = ⊥
 Answers faults faults_now Calls status.NoMemory = Unit {0}

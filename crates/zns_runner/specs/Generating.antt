@@ -1,5 +1,5 @@
--- A session of so many commands that a number determines. Numbers are drawn one after the other by a linear congruence
--- modulo 2^64; of each the upper 31 bits are taken. Four are drawn for each command.
+-- The session of `count` commands that `number` determines. Numbers are drawn one after another by a linear congruence modulo 2^64, of
+-- which the upper 31 bits are taken. Four are drawn for each command.
 use Rattle.std.specs.Prelude.{ℕ, zero, suc, ◌+◌, ◌*◌, ◌/◌, ◌%◌, ◌^◌, ◌≤◌, true, false, nat_lt, ◌==◌, if◌then◌else◌, List, [], ◌∷◌, replicate}
 use Rattle.zns_types.specs.declared.fields.GeometryFields.{GeometryFields}
 use Rattle.zns_types.specs.Geometry.{first}
@@ -32,7 +32,7 @@ made_geometry = record {
 
 -- ---- numbers that are drawn
 
--- Where the draws come to from a place.
+-- The state of the generator after one more draw.
 unfoldable pub next : ℕ → ℕ
 next x = (x * 6364136223846793005 + 1442695040888963407) % 2 ^ 64
 
@@ -40,7 +40,7 @@ abbrev pub nth_next : ℕ → ℕ → ℕ
 nth_next zero x = x
 nth_next (suc n) x = nth_next n (next x)
 
--- the number that is drawn as the first, second and so on from a place
+-- the n-th number that is drawn from a state, counted from 1
 abbrev pub drawn : ℕ → ℕ → ℕ
 drawn n x = nth_next n x / 2 ^ 33
 
@@ -52,7 +52,7 @@ finish_code = 0x02
 abbrev pub reset_code : ℕ
 reset_code = 0x04
 
--- A command to a zone, by its kind from 0 to 15 and a number that was drawn.
+-- A command to a zone, by its kind from 0 to 15, the zone, and a number that was drawn.
 unfoldable pub made_command : ℕ → ℕ → ℕ → Cmd
 made_command kind z number =
     if nat_lt kind 6 then cmd.Append 1 at 1
@@ -75,7 +75,7 @@ act_of g number queue c byte = record {
   payload = replicate (transfer_len g c) byte;
 }
 
--- The act with this number, from where the draws have come.
+-- The act with this number, drawn from a state of the generator.
 unfoldable pub made_act : ℕ → ℕ → Act
 made_act number x =
     act_of made_geometry number
@@ -83,7 +83,7 @@ made_act number x =
     (made_command (drawn 2 x % 16) (drawn 3 x % 16) (drawn 4 x))
     (drawn 4 x % 256)
 
--- so many acts, of which the first has this number
+-- `count` acts, the first of which has this number, drawn from a state of the generator
 abbrev pub made_acts : ℕ → ℕ → ℕ → List Act
 made_acts zero number x = []
 made_acts (suc count) number x = made_act number x ∷ made_acts count (number + 1) (nth_next 4 x)
@@ -93,7 +93,7 @@ made number count = record { geometry = made_geometry; acts = made_acts count 0 
 
 -- ---- what a file can hold of them
 
--- a command brings at most a block, and asks for at most one
+-- a command sends at most a block, and asks for at most one
 pub record MovesOneBlock (c : Cmd) : Type 0 where
   pub sent : transfer_len made_geometry c ≤ 512
   pub asked : reply_len made_geometry c ≤ 512

@@ -1,4 +1,4 @@
--- Which inputs are taken, and with what the others are refused.
+-- Which inputs are taken, and how the others are refused.
 use Rattle.std.specs.Prelude.{◌≡◌, ℕ, ◌+◌, ◌≤◌, ◌^◌, nat_lt, List, [], ◌∷◌, ◌++◌, length, Option, Some}
 use Rattle.zns_types.specs.Rows.{Row, first_holding}
 use Rattle.zone_model.specs.Sessions.{Recorded, IsSession, spells}
@@ -16,7 +16,7 @@ use Rattle.zns_runner.specs.Checking.{IsSame, IsUnlike}
 
 -- ---- what a task reads
 
--- What a task takes of the bytes that a source still has, where it tells them: all of them, or none where it reads nothing.
+-- What a task takes of the bytes that a source still has, if it tells them: all of them, or none if the task reads nothing.
 abbrev pub input_of : Task → Option (List ℕ) → Option (List ℕ)
 input_of the_task.One left = left
 input_of the_task.Run left = left
@@ -40,15 +40,15 @@ Reads (the_task.Gen number count) left now input = (now ≡ left) × (input ≡ 
 abbrev pub input_row : List ℕ → Row FileErr
 input_row bytes = large which.Input (2 ^ 29 + 1) (nat_lt (2 ^ 29) (length bytes))
 
--- the rules of a session, and nothing after it
+-- the rules of an input that is a session, with nothing after it
 abbrev pub session_rows : List ℕ → List (Row FileErr)
 session_rows bytes = input_row bytes ∷ file_rows bytes
 
--- the rules of a session, and of an order of its acts after it
+-- the rules of an input that is a session followed by an order of its acts
 abbrev pub checked_rows : List ℕ → List (Row FileErr)
 checked_rows bytes = input_row bytes ∷ (front_rows bytes ++ result_rows bytes (session_end bytes) (session_in bytes).acts)
 
--- the rules of a script
+-- the rules of an input that is a script
 abbrev pub host_rows : List ℕ → List (Row FileErr)
 host_rows bytes = input_row bytes ∷ script_rows bytes
 
@@ -56,7 +56,7 @@ host_rows bytes = input_row bytes ∷ script_rows bytes
 abbrev pub made_rows : ℕ → List (Row FileErr)
 made_rows count = large which.Commands count (nat_lt 262144 count) ∷ []
 
--- the rules of what a task takes, in their order
+-- the rules of what a task takes, in order
 abbrev pub rules_for : Task → List ℕ → List (Row FileErr)
 rules_for the_task.One bytes = session_rows bytes
 rules_for the_task.Run bytes = session_rows bytes
@@ -65,7 +65,7 @@ rules_for the_task.Show bytes = session_rows bytes
 rules_for the_task.Host bytes = host_rows bytes
 rules_for (the_task.Gen number count) bytes = made_rows count
 
--- the input is refused with the first rule that it breaks
+-- the input is refused for the first rule that it breaks
 abbrev pub IsRefusal : Task → List ℕ → FileErr → Type 0
 IsRefusal t bytes e = first_holding (rules_for t bytes) ≡ Some e
 
@@ -81,8 +81,8 @@ pub record SpellsScript (bytes : List ℕ) : Type 0 where
   pub valid : IsScript script
   pub spelled : bytes ≡ script_text script
 
--- The inputs of which a task makes an output: every session, for a check every session with its result, and for a host
--- every script. A session that is made goes by its number of commands alone.
+-- The inputs for which a task makes an output: every session; for a check, every session with its result; for a host, every script. Whether
+-- a session is made depends on its number of commands alone.
 abbrev pub IsTaken : Task → List ℕ → Type 0
 IsTaken the_task.One bytes = SpellsSession bytes
 IsTaken the_task.Run bytes = SpellsSession bytes
@@ -91,7 +91,7 @@ IsTaken the_task.Show bytes = SpellsSession bytes
 IsTaken the_task.Host bytes = SpellsScript bytes
 IsTaken (the_task.Gen number count) bytes = count ≤ 262144
 
--- the offset at which a result is found to be another: only a check looks for it
+-- the offset at which a result differs from that of its session; only a check looks for it
 abbrev pub IsFound : Task → List ℕ → ℕ → Type 0
 IsFound the_task.One bytes offset = ⊥
 IsFound the_task.Run bytes offset = ⊥

@@ -1,4 +1,4 @@
--- The lines that are said of statuses.
+-- The line that reports a status.
 use Rattle.std.specs.Prelude.{ℕ, List, [], ◌∷◌, ◌++◌, codes}
 use Rattle.std.specs.Fmt.{decimal}
 use Rattle.session_file.specs.ReasonTexts.{reason_text}
@@ -6,7 +6,7 @@ use Rattle.session_file.specs.WhichTexts.{which_text}
 use Rattle.zns_runner.specs.declared.status.Status.{Status}
 use Rattle.zns_runner.specs.declared.status.Status.TheVariants as status
 
--- Nothing is said where all is well; each line ends with a line feed.
+-- Success has no line. Each line ends with a line feed.
 abbrev pub line_of : Status → List ℕ
 line_of status.Ok = []
 line_of status.NoMemory = codes "zns_runner: no memory" ++ 10 ∷ []

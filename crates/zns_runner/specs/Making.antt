@@ -22,32 +22,32 @@ use Rattle.zns_runner.specs.Inputs.{input_of, Reads}
 use Rattle.zns_runner.specs.Outputs.{IsOutputFor}
 use Rattle.zns_runner.specs.Outcomes.{CallsFor, CallsForOf}
 
--- how an error in an input is answered
+-- the status for an error in an input
 abbrev pub status_of : FileErr → Status
 status_of NoMemory = status.NoMemory
 status_of (Bad reason offset) = status.BadFile reason offset
 status_of (Large which number) = status.TooLarge which number
 
--- how it is answered that reading ended with an error
+-- the status for an error of reading
 abbrev pub status_of_reading : ReadErr → Status
 status_of_reading read_err.NoMemory = status.NoMemory
 status_of_reading read_err.Failed = status.ReadFault
 status_of_reading read_err.Over = status.TooLarge which.Input (2 ^ 29 + 1)
 
--- how it is answered that a comparison ended with an error
+-- the status for an error of a comparison
 abbrev pub status_of_comparison : CompareErr → Status
 status_of_comparison compare_err.NoMemory = status.NoMemory
 status_of_comparison compare_err.Failed = status.ReadFault
 status_of_comparison compare_err.Over = status.TooLarge which.Input (2 ^ 29 + 1)
 status_of_comparison (compare_err.Differs offset) = status.Differs offset
 
--- the error of a comparison that reading ended
+-- the error of a comparison for an error of reading
 abbrev pub compare_err_of : ReadErr → CompareErr
 compare_err_of read_err.NoMemory = compare_err.NoMemory
 compare_err_of read_err.Failed = compare_err.Failed
 compare_err_of read_err.Over = compare_err.Over
 
--- an input of which no output is made calls for the answer, or memory ran out
+-- why no output is made for an input: the input calls for the answer, or memory ran out
 abbrev pub IsCause : Task → List ℕ → Status → Type 0
 IsCause t input status.Ok = ⊥
 IsCause t input status.NoMemory = ⊤
@@ -58,12 +58,12 @@ IsCause t input (status.BadFile reason offset) = CallsFor t input (status.BadFil
 IsCause t input (status.TooLarge which number) = CallsFor t input (status.TooLarge which number)
 IsCause t input (status.Differs offset) = CallsFor t input (status.Differs offset)
 
--- what a task answers to an input: the output, or the status of a run that makes none
+-- what a task makes of an input: the output, or the status of a run without one
 abbrev pub Makes : Task → List ℕ → Result Bytes Status → Type 0
 Makes t input (Ok output) = IsOutputFor t input output
 Makes t input (Err s) = IsCause t input s
 
--- a session is not made exactly where it would have too many commands
+-- a session is refused for its number of commands exactly if it would have too many
 abbrev pub MakesByCount : Task → Result Bytes Status → Type 0
 MakesByCount the_task.One result = ⊤
 MakesByCount the_task.Run result = ⊤
@@ -74,7 +74,7 @@ MakesByCount (the_task.Gen number count) result = (result ≡ Err (status.TooLar
 
 -- ---- what a source gives
 
--- a task read what it takes, which isn't longer than an input may be
+-- a task read what it takes, which is no longer than an input may be
 pub record IsInput (t : Task) (left now : Option (List ℕ)) (input : List ℕ) : Type 0 where
   pub read : Reads t left now input
   pub short : length input ≤ 2 ^ 29
@@ -85,7 +85,7 @@ pub record IsRefused (t : Task) (left now : Option (List ℕ)) (s : Status) : Ty
   pub cause : CallsForOf t (input_of t left) s
   pub read : ReadsFrontUpTo left now (2 ^ 29 + 1)
 
--- how a run ends that makes no output
+-- how a run without an output ends
 abbrev pub EndsBefore : Task → Option (List ℕ) → Option (List ℕ) → ℕ → ℕ → Status → Type 0
 EndsBefore t left now faults faults_now status.Ok = ⊥
 EndsBefore t left now faults faults_now status.NoMemory = ReadsFrontUpTo left now (2 ^ 29 + 1)
@@ -101,13 +101,13 @@ abbrev pub GivesInput : Task → Option (List ℕ) → Option (List ℕ) → ℕ
 GivesInput t left now faults faults_now (Ok input) = IsInput t left now input
 GivesInput t left now faults faults_now (Err s) = EndsBefore t left now faults faults_now s
 
--- The source was read to its end, and spelled a session, which isn't longer than an input may be.
+-- The source was read to its end and spelled a session, which is no longer than an input may be.
 pub record IsSessionRead (left now : Option (List ℕ)) (s : Recorded) : Type 0 where
   pub valid : IsSession s
   pub read : ReadsAll left now (spelling s)
   pub front : ReadsFrontUpTo left now (2 ^ 29 + 1)
 
--- the session that a source gives, or how the run of each task that takes one ends without it
+-- the session that a source gives, or how the run of any task that takes a session ends without it
 abbrev pub GivesSession : Option (List ℕ) → Option (List ℕ) → ℕ → ℕ → Result Recorded Status → Type 0
 GivesSession left now faults faults_now (Ok session) = IsSessionRead left now session
 GivesSession left now faults faults_now (Err s) = (t : Task) → TakesSession t → EndsBefore t left now faults faults_now s
@@ -123,7 +123,7 @@ abbrev pub GivesOutput : Task → Option (List ℕ) → Option (List ℕ) → �
 GivesOutput t left now faults faults_now (Ok output) = IsOutputOf t left now output
 GivesOutput t left now faults faults_now (Err s) = EndsBefore t left now faults faults_now s
 
--- How a run ends that made an output, or did not: the output was written, or a write failed; or nothing was written.
+-- How a run ends. With an output, it was written or a write failed. Without one, nothing was written.
 abbrev pub EndsBy : Result Bytes Status → Option (List ℕ) → Option (List ℕ) → ℕ → ℕ → Status → Type 0
 EndsBy (Ok output) taken now faults faults_now status.Ok = Gains taken now output
 EndsBy (Ok output) taken now faults faults_now status.NoMemory = ⊥

@@ -1,4 +1,4 @@
--- What the program writes, by what it is asked for.
+-- What the program writes for each task.
 use Rattle.std.specs.Prelude.{◌≡◌, ℕ, ◌≤◌, List, [], ◌∷◌, codes}
 use Rattle.zone_model.specs.Laws.{IsKept}
 use Rattle.zone_model.specs.Sessions.{Recorded, IsSession, spells, merge, own_order}
@@ -14,8 +14,8 @@ use Rattle.zns_runner.specs.Summaries.{summary}
 use Rattle.zns_runner.specs.Checking.{IsSame}
 use Rattle.text_lines.specs.Texts.{line}
 
--- The input is a session, and the output is its result in the order of its file. In that order its acts keep the limits,
--- move pointers as they may, and leave committed blocks.
+-- The input is a session, and the output is its result in the order of the file. In that order the limits hold, pointers move only as
+-- allowed, and committed blocks stay.
 pub record IsServed (input output : List ℕ) : Type 0 where
   pub session : Recorded
   pub valid : IsSession session
@@ -23,7 +23,7 @@ pub record IsServed (input output : List ℕ) : Type 0 where
   pub result : IsOwnResult session output
   pub kept : IsKept session.geometry (merge session (own_order session.acts))
 
--- The input is a session, and the output is its result in the order that its queues took side by side.
+-- The input is a session, and the output is its result in the order in which its queues were served side by side.
 pub record IsRan (input output : List ℕ) : Type 0 where
   pub session : Recorded
   pub valid : IsSession session
@@ -37,7 +37,7 @@ pub record IsShown (input output : List ℕ) : Type 0 where
   pub spelled : spells session input
   pub text : output ≡ shown session
 
--- what is said where a result is that of its session
+-- the output if a result is that of its session
 abbrev pub same_line : List ℕ
 same_line = line (codes "same" ∷ [])
 
@@ -53,12 +53,12 @@ pub record IsHosted (input output : List ℕ) : Type 0 where
   pub spelled : input ≡ script_text script
   pub text : output ≡ scripted script.geometry script.lines
 
--- there are few enough commands, and the output is the summary of the session that the number makes
+-- the session that the number determines isn't too long, and the output is its summary
 pub record IsGenerated (number count : ℕ) (output : List ℕ) : Type 0 where
   pub few : count ≤ 262144
   pub text : output ≡ summary (made number count)
 
--- what a task makes of an input
+-- the output of a task for an input
 abbrev pub IsOutputFor : Task → List ℕ → List ℕ → Type 0
 IsOutputFor the_task.One input output = IsServed input output
 IsOutputFor the_task.Run input output = IsRan input output

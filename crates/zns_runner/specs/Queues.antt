@@ -3,7 +3,7 @@ use Rattle.std.specs.Prelude.{◌≡◌, ℕ, ◌<◌, List, length, slice_index
 use Rattle.zone_model.specs.declared.act.Act.{Act}
 use Rattle.zone_model.specs.Sessions.{acts_of}
 
--- so many queues, and each has its acts of these in their order
+-- the acts, sorted into `count` queues, each in order
 pub record AreQueues (count : ℕ) (acts : List Act) (queues : List (List Act)) : Type 0 where
   pub long : length queues ≡ count
   pub each : (queue : ℕ) → queue < count → (d : List Act) → slice_index_or queues queue d ≡ acts_of queue acts

@@ -53,7 +53,7 @@ act_line number a = line (
     ∷ encode_lower a.sqe.bytes
     ∷ [])
 
--- the lines of acts, of which the first has this number
+-- the lines of acts, the first of which has this number
 abbrev pub act_lines : ℕ → List Act → List ℕ
 act_lines number [] = []
 act_lines number (a ∷ acts) = act_line number a ++ act_lines (number + 1) acts

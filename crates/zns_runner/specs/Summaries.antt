@@ -9,7 +9,7 @@ use Rattle.zone_model.specs.Sessions.{Recorded}
 use Rattle.zns_runner.specs.declared.summing.Totals.{Totals}
 use Rattle.text_lines.specs.Texts.{line}
 
--- all zones' pointers together, as offsets; that of a Full zone is its capacity
+-- the sum of all zones' pointers, as offsets; the pointer of a Full zone counts as its capacity
 abbrev pub pointers : GeometryFields → List Place → ℕ
 pointers g h = sum (map (pointer g h) (zones g))
 

@@ -1,4 +1,4 @@
--- An input whose front was taken, while the rest of it comes from a source.
+-- An input whose front was taken, while the rest still comes from a source.
 use Rattle.std.specs.Prelude.{◌≡◌, ℕ, ◌+◌, ◌^◌, List, ◌++◌, length, Option, Some}
 use Rattle.std.specs.Io.KnownBytes.{Consumes}
 use Rattle.zns_io.specs.Faults.{Rose}
@@ -6,23 +6,22 @@ use Rattle.zns_runner.specs.declared.compare_err.CompareErr.{CompareErr}
 use Rattle.zns_runner.specs.declared.compare_err.CompareErr.TheVariants as compare_err
 use Rattle.zns_runner.specs.Differences.{StandAt, DiffersFrom, IsDifference}
 
--- the bytes that were read and not taken, and how many were taken before them
+-- the bytes that were read and not taken, and the number of bytes taken before them
 pub record TailBytes : Type 0 where
   pub held : List ℕ
   pub at : ℕ
 
--- The input is what was taken, what was read after it, and what the source still tells. No input is told where the
--- source tells nothing.
+-- The input is what was taken, what was read after it, and what the source still tells. No input is, if the source tells nothing.
 pub record IsIn (input : List ℕ) (left : Option (List ℕ)) (t : TailBytes) : Type 0 where
   pub front : List ℕ
   pub long : length front ≡ t.at
   pub came : Consumes (Some input) left (front ++ t.held)
 
--- it stays the same input
+-- the input stays the same
 abbrev pub StaysIn : Option (List ℕ) → Option (List ℕ) → TailBytes → TailBytes → Type 0
 StaysIn left now old new = (input : List ℕ) → IsIn input left old → IsIn input now new
 
--- more was read than the longest input has
+-- one byte more was read than the longest input has
 abbrev pub IsOver : TailBytes → Type 0
 IsOver t = t.at + length t.held ≡ 2 ^ 29 + 1
 
@@ -31,15 +30,15 @@ pub record ComeNext (left : Option (List ℕ)) (old new : TailBytes) (bytes : Li
   pub at : new.at ≡ old.at + length bytes
   pub stand : (input : List ℕ) → IsIn input left old → StandAt input old.at bytes new.at
 
--- whatever comes after these bytes, the input differs from them first at an offset
+-- whatever comes after these bytes, the input first differs from them at this offset
 abbrev pub ComeOthers : Option (List ℕ) → TailBytes → List ℕ → ℕ → Type 0
 ComeOthers left old bytes offset = (input : List ℕ) → IsIn input left old → DiffersFrom input old.at bytes offset
 
--- the input from there on differs from these bytes first at an offset
+-- the rest of the input first differs from these bytes at this offset
 abbrev pub ComeOtherwise : Option (List ℕ) → TailBytes → List ℕ → ℕ → Type 0
 ComeOtherwise left old bytes offset = (input : List ℕ) → IsIn input left old → IsDifference input old.at bytes offset
 
--- What an error of a comparison says: of a difference what is said of its offset.
+-- What an error of a comparison says. The offset of a difference satisfies `Differ`.
 abbrev pub StopsBy : ℕ → ℕ → TailBytes → (ℕ → Type 0) → CompareErr → Type 0
 StopsBy faults faults_now new Differ compare_err.NoMemory = Unit {0}
 StopsBy faults faults_now new Differ compare_err.Failed = Rose faults faults_now

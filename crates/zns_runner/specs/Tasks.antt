@@ -1,4 +1,4 @@
--- What the program is asked for, by its words.
+-- What the program is asked to do, by its words.
 use Rattle.std.specs.Prelude.{◌≡◌, ℕ, ◌<◌, ◌^◌, List, [], ◌∷◌, codes, Option, Some, None, if◌then◌else◌, ⊤}
 use Rattle.std.specs.Fmt.{decimal}
 use Rattle.std.specs.Str.{bytes_eq}
@@ -6,7 +6,7 @@ use Rattle.zns_runner.specs.declared.task.Task.{Task}
 use Rattle.zns_runner.specs.declared.task.Task.TheVariants as the_task
 use Rattle.text_lines.specs.Decimals.{number_in}
 
--- the words by which the program is asked for a task
+-- the words that ask for a task
 abbrev pub words_for : Task → List (List ℕ)
 words_for the_task.One = codes "one" ∷ []
 words_for the_task.Run = codes "run" ∷ []
@@ -15,7 +15,7 @@ words_for the_task.Show = codes "show" ∷ []
 words_for the_task.Host = codes "host" ∷ []
 words_for (the_task.Gen number count) = codes "gen" ∷ decimal number ∷ decimal count ∷ []
 
--- a task's numbers are numbers of 64 bits
+-- a task's numbers fit 64 bits
 abbrev pub HasNumbers : Task → Type 0
 HasNumbers the_task.One = ⊤
 HasNumbers the_task.Run = ⊤
@@ -29,7 +29,7 @@ pub record AskFor (words : List (List ℕ)) (t : Task) : Type 0 where
   pub same : words ≡ words_for t
   pub numbers : HasNumbers t
 
--- a task makes its session, and so reads none
+-- a task makes its session and reads nothing
 abbrev pub MakesSession : Task → Type 0
 MakesSession the_task.One = ⊥
 MakesSession the_task.Run = ⊥
@@ -38,7 +38,7 @@ MakesSession the_task.Show = ⊥
 MakesSession the_task.Host = ⊥
 MakesSession (the_task.Gen number count) = ⊤
 
--- a task takes a session, and nothing after it
+-- a task takes a session with nothing after it
 abbrev pub TakesSession : Task → Type 0
 TakesSession the_task.One = ⊤
 TakesSession the_task.Run = ⊤
@@ -72,12 +72,12 @@ task_of_word word =
     else if bytes_eq word (codes "host") then Some the_task.Host
     else None
 
--- the task of two numbers
+-- the task to make a session, if both numbers are there
 abbrev pub gen_of : Option ℕ → Option ℕ → Option Task
 gen_of (Some number) (Some count) = Some (the_task.Gen number count)
 gen_of _ _ = None
 
--- the task that a word names with two numbers after it
+-- the task that a word names together with two numbers
 abbrev pub task_of_numbers : List ℕ → List ℕ → List ℕ → Option Task
 task_of_numbers word number count = if bytes_eq word (codes "gen") then gen_of (number_in number) (number_in count) else None
 

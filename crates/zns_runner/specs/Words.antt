@@ -1,4 +1,4 @@
--- What the program takes as its words.
+-- The words that the program gets from its arguments.
 use Rattle.std.specs.Prelude.{◌≡◌, ◌≢◌, ℕ, List, [], map, drop, Vec, Result, Ok, Err, ⊤}
 use Rattle.std.specs.String.{string_bytes}
 use Rattle.std.specs.Vec.Iter.{into_iter_items}
@@ -13,8 +13,8 @@ use Rattle.zns_io.specs.declared.no_memory.NoMemory.{NoMemory}
 abbrev pub after_name : {Z : Type 0} → IntoIter (String Z) Z → List (List ℕ)
 after_name args = map string_bytes (drop 1 (into_iter_items args))
 
--- Arguments that are texts give the words after the name, unless memory runs out. Where there is an error in their
--- place, the program is out of memory exactly where that error is, and else has no words.
+-- If the arguments are texts, the words are those after the name, unless memory runs out. If there is an error instead, the result is out
+-- of memory exactly if the error is, and else there are no words.
 abbrev pub AreWordsOf : {Z : Type 0} → Result (IntoIter (String Z) Z) Error → Result (Vec (List ℕ) Z) NoMemory → Type 0
 AreWordsOf (Ok args) (Ok words) = words.items ≡ after_name args
 AreWordsOf (Ok args) (Err _) = ⊤

@@ -43,7 +43,7 @@ pub record Describes (bytes : List ℕ) (d : Descriptor) : Type 0 where
   pub first : field 16 8 bytes ≡ d.first
   pub pointer : field 24 8 bytes ≡ d.pointer
 
--- why bytes describe no zone of this kind: the type first, each with its byte
+-- why bytes don't describe a zone of this kind, each with its byte: the type is checked first
 abbrev pub Refuses : List ℕ → DescErr → Type 0
 Refuses bytes (TypeNot2 byte) = (byte ≡ slice_index bytes 0) × (type_of bytes ≢ sequential)
 Refuses bytes (StateUnknown byte) = (byte ≡ slice_index bytes 1) × (type_of bytes ≡ sequential) × IsNoState (state_number bytes)

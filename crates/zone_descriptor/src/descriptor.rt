@@ -13,12 +13,12 @@ pub struct Descriptor {
     /// recommended; bit 3: the zone has a random write area.
     pub attributes: u8,
 
-    /// The blocks that can be written.
+    /// The number of blocks that can be written.
     pub capacity: u64,
 
-    /// The first block.
+    /// The number of the first block.
     pub first: u64,
 
-    /// The block at the write pointer, or all ones where the pointer means nothing.
+    /// The number of the block at the write pointer, or all ones if the pointer means nothing.
     pub pointer: u64,
 }

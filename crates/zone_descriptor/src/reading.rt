@@ -9,7 +9,7 @@ use crate::descriptor::{Descriptor, SEQUENTIAL};
 use byteorder::{ByteOrder, LittleEndian};
 use zns_types::State;
 
-// The eight bytes from a place on, as a number.
+// The number in the eight bytes from `place` on.
 fn number_at(bytes: &[u8], place: usize) -> u64
     requires entry { length bytes.now ≡ 64 }
     requires within { place + 8 ≤ 64 }

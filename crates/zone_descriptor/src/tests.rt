@@ -2,7 +2,7 @@ use crate::{DescErr, Descriptor, read, write};
 use std::test::Fail;
 use zns_types::State;
 
-// The bytes of a descriptor whose first three are given, with capacity 48, first block 0 and its
+// The bytes of a descriptor with these first three bytes, capacity 48, first block 0 and the write
 // pointer at block 1.
 fn bytes_of(kind: u8, state: u8, attributes: u8) -> [u8; 64] {
     let mut bytes = [0; 64];

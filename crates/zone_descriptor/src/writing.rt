@@ -5,7 +5,7 @@ ghost use Rattle.zone_descriptor.specs.Descriptors.{descriptor_bytes, sequential
 use crate::descriptor::{Descriptor, SEQUENTIAL};
 use byteorder::{ByteOrder, LittleEndian};
 
-// The fields of a descriptor, one after the other.
+// A descriptor of these fields, one after another.
 fn fields(state: u8, attributes: u8, capacity: u64, first: u64, pointer: u64) -> [u8; 64]
     requires { state < 2 ^ 4 }
     ensures { result
@@ -22,7 +22,7 @@ fn fields(state: u8, attributes: u8, capacity: u64, first: u64, pointer: u64) ->
     bytes
 }
 
-/// The bytes of a descriptor. What is reserved is zero.
+/// The bytes of a descriptor. Reserved bits are zero.
 pub fn write(descriptor: &Descriptor) -> [u8; 64]
     ensures bytes { result ≡ descriptor_bytes descriptor.now }
     ensures describes { descriptor.now.attributes < 2 ^ 4 → Describes result descriptor.now }

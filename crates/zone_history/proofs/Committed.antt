@@ -1,4 +1,4 @@
--- A committed block stays committed and reads the same, until its zone is reset or goes Offline.
+-- A committed block stays committed and reads the same until its zone is reset or goes Offline.
 use Rattle.std.proofs.Common.{◌≡◌, ℕ, ◌+◌, ◌-◌, ◌<◌, ◌≤◌, max, Bool, true, false, List, ◌∷◌, refl, ap, ◌∙◌, arith, inl, inr}
 use Rattle.std.specs.Prelude.{◌==◌, ◌&&◌, ◌⊎◌, nat_lt, nat_le, is_ok}
 use Rattle.std.proofs.lemmas.Bool.{cases_Bool, or_cases, or_left, and_left, and_parts, ltb-true, lt-ltb, lt-leb, not-true}

@@ -17,7 +17,7 @@ drive = record { block_exp = 9; mdts = 0; zasl = 0; flags = 0; zones = 4; zone_s
 abbrev plain : Deed → Done
 plain d = record { deed = d; payload = [] }
 
--- a Write of one block that holds one byte
+-- a Write of one block, filled with one byte
 abbrev write_byte : ℕ → ℕ → Done
 write_byte from byte = record { deed = deed.Write from 1; payload = replicate 512 byte }
 
@@ -29,7 +29,7 @@ with_window = plain (deed.Open true) ∷ []
 abbrev near_end : List Done
 near_end = plain (deed.Open true) ∷ plain (deed.Write 0 40) ∷ []
 
--- a Write that ends inside the area leaves the pointer; one that ends a block past it moves the pointer by one granule
+-- a Write that ends inside the area leaves the pointer, and one that ends a block past it moves the pointer by one granule
 inside : pointer_of drive (plain (deed.Write 4 4) ∷ with_window) ≡ 0
 unfolding pointer_since
 inside = refl
@@ -48,7 +48,7 @@ open_keeps : pointer_of drive near_end ≡ 40
 unfolding pointer_since
 open_keeps = refl
 
--- a commit up to the capacity makes the zone Full, without a random write area
+-- a commit up to the capacity makes the zone Full and takes its random write area away
 commit_full : state_of drive (plain (deed.Commit 47) ∷ near_end) ≡ Full
 unfolding pointer_since state_of
 commit_full = refl

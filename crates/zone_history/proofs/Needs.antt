@@ -23,7 +23,7 @@ use Rattle.zone_history.proofs.Standing.{stands}
 use Rattle.zone_history.proofs.Taking.{LeadsWithin, leads_within, needs_empty, needs_window}
 pub use Rattle.zone_history.proofs.Taking.{AsksNew, asks_new}
 
--- what is used after a deed was used before, or the deed needs it
+-- whatever is used after a deed was used before, or the deed needs it
 abbrev pub WasOrNeeded : Bool → Bool → Bool → Type 0
 WasOrNeeded used was needed = used ≡ true → (was ≡ true) ⊎ (needed ≡ true)
 

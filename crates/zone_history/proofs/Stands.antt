@@ -29,7 +29,7 @@ granular : (g : GeometryFields) (ds : List Done) → was_finished ds ≡ false �
 unfolding pointer_since
 granular g ds unfinished opened = rw (unfinished, opened) (least_multiple-mod g.granule _)
 
--- what is known of a zone with a random write area
+-- what holds of a zone with a random write area
 pub record HasWindow (g : GeometryFields) (ds : List Done) : Type 0 where
   pub active : is_active (state_of g ds) ≡ true
   pub opened : was_windowed ds ≡ true

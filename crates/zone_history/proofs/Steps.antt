@@ -98,7 +98,7 @@ pub block-reset : (g : GeometryFields) (d : Done) (ds : List Done) (b : ℕ) →
 unfolding block_of
 block-reset g d ds b reset = rw reset refl
 
--- the blocks of a write are those of its data
+-- the blocks that a write covers take its data
 pub block-step : (g : GeometryFields) (d : Done) (ds : List Done) (b start : ℕ) → is_reset d.deed ≡ false → start_of (pointer_of g ds) d.deed ≡ start
     → block_of g (d ∷ ds) b ≡ cond (nat_le start b && nat_lt b (start + blocks_of d.deed)) (Some (block_at (block_len g) d.payload (b - start))) (block_of g ds b)
 unfolding block_of

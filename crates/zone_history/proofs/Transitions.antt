@@ -20,7 +20,7 @@ is_still deed.Offline = true
 is_still (deed.Excursion kind) = not (kind == 1)
 is_still _ = false
 
--- Empty or active: blocks can be added
+-- Empty or active, so blocks can be added
 abbrev pub is_live : State → Bool
 is_live = by_state true true true true false false false
 

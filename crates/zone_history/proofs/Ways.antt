@@ -55,7 +55,7 @@ window_active g ds e = (window-parts g ds e).0
 
 -- ---- the cases
 
--- The table of transitions allows a deed that was admitted.
+-- The table of transitions allows an admitted deed.
 pub deed_leads : (g : GeometryFields) (ds : List Done) (e : Deed) → IsAdmitted g ds e → is_ok (go (action_of e) (state_of g ds)) ≡ true
 deed_leads g ds e a = leads g (sight_of g ds) e (window_active g ds) a.rows
 
@@ -125,7 +125,7 @@ still_quiet g deed.Offline still = record { no_reset = refl; no_finish = refl; n
 still_quiet g (deed.Excursion kind) still = record { no_reset = refl; no_finish = not-true _ still; no_write = refl; no_window = refl; no_bound = refl }
 still_quiet g _ still = absurd (cc still)
 
--- a finish
+-- what holds of a finish
 pub record IsEnd (e : Deed) : Type 0 where
   pub no_reset : is_reset e ≡ false
   pub no_write : blocks_of e ≡ 0

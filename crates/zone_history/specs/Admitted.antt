@@ -17,7 +17,7 @@ pub record IsAdmitted (g : GeometryFields) (ds : List Done) (d : Deed) : Type 0 
   pub rows : Admits g (sight_of g ds) d
   pub some : is_write d ≡ true → 1 ≤ blocks_of d
 
--- each deed was admitted after those before it
+-- each deed was admitted after the earlier ones
 abbrev pub AreAdmitted : GeometryFields → List Done → Type 0
 AreAdmitted g [] = Unit {0}
 AreAdmitted g (d ∷ ds) = IsAdmitted g ds d.deed × AreAdmitted g ds

@@ -28,7 +28,7 @@ DeedMovesPointer = (g : GeometryFields) (ds : List Done) (d : Done) → IsGeomet
 
 -- ---- where the pointer stands
 
--- at or past what was written before the random write area was asked for
+-- at or after what was written before the random write area was asked for
 abbrev pub CoversWritten : List Done → ℕ → Type 0
 CoversWritten ds q = total count_of (before_first_in opens_window ds) ≤ q
 
@@ -60,13 +60,13 @@ pub record IsKeptBlock (g : GeometryFields) (old new : List Done) (b : ℕ) : Ty
   pub committed : is_committed g new b ≡ true
   pub seen : seen_of g new b ≡ seen_of g old b
 
--- Until the zone is reset or goes Offline, a committed block stays committed and reads the same.
+-- A committed block stays committed and reads the same until its zone is reset or goes Offline.
 abbrev pub DeedKeepsCommitted : Type 0
 DeedKeepsCommitted = (g : GeometryFields) (ds : List Done) (d : Done) (b : ℕ) → IsGeometry g → AreAdmitted g (d ∷ ds) → is_committed g ds b ≡ true → is_reset d.deed ≡ false
     → is_offline (after (action_of d.deed) (state_of g ds)) ≡ false → IsKeptBlock g ds (d ∷ ds) b
 
 -- ---- transitions
 
--- The table of transitions allows each deed that the zone didn't refuse.
+-- The table of transitions allows each deed that the zone itself didn't refuse.
 abbrev pub DeedIsAllowed : Type 0
 DeedIsAllowed = (g : GeometryFields) (ds : List Done) (d : Done) → IsGeometry g → AreAdmitted g (d ∷ ds) → is_ok (go (action_of d.deed) (state_of g ds)) ≡ true

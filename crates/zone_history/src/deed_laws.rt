@@ -19,7 +19,7 @@ pub fn deed_keeps_committed()
     ensures { DeedKeepsCommitted }
 {}
 
-/// The table of transitions allows each deed that its zone didn't refuse.
+/// The table of transitions allows each deed that the zone itself didn't refuse.
 pub fn deed_is_allowed()
     ensures { DeedIsAllowed }
 {}

@@ -5,15 +5,16 @@ ghost use Rattle.zone_limits.specs.Resources.{at_limit, no_active_left, need_row
 use crate::limits::{Grant, Limits, Need};
 use zns_types::{Code, Geometry};
 
-// Whether a limit is reached; 0 is no limit.
+// Whether a limit is reached; 0 means no limit.
 fn at_limit(limit: u32, count: u32) -> bool
     ensures { result ≡ at_limit limit count }
 {
     limit != 0 && count >= limit
 }
 
-/// What a command that needs these resources has to do first, or the status that says which of them
-/// is used up. `evictable` says whether a zone can be closed in the place of the one to be opened.
+/// What must happen before a command that needs these resources, or the status that says which of
+/// them is used up. `evictable` says whether a zone can be closed to make room for the one to be
+/// opened.
 pub fn need(limits: &Limits, g: &Geometry, need: Need, evictable: bool) -> Result<Grant, Code>
     ensures refused { IfErr result (λ code.
         first_holding (need_rows g.now.fields limits.now need evictable) ≡ Some code) }
@@ -35,8 +36,8 @@ pub fn need(limits: &Limits, g: &Geometry, need: Need, evictable: bool) -> Resul
     Ok(Grant { evict })
 }
 
-/// Whether another zone has to give way for what a command needs: active resources are left for it,
-/// and open ones are not.
+/// Whether another zone has to give way for what a command needs: there are active resources left
+/// for it, but no open ones.
 pub fn wants_room(limits: &Limits, g: &Geometry, need: Need) -> bool
     ensures { result
         ≡ (not (no_active_left g.now.fields limits.now need).holds

@@ -1,4 +1,4 @@
-//! How many zones may be active, be opened and have a random write area at a time.
+//! How many zones may be active, be opened and have a random write area at the same time.
 #![tactic(auto)]
 
 mod asking;

@@ -19,7 +19,7 @@ pub struct Need {
     pub window: bool,
 }
 
-/// What has to happen before the resources are there.
+/// What has to be done before the resources are available.
 #[derive(Clone, Copy, Debug, PartialEq, Eq)]
 pub struct Grant {
     /// An opened zone has to be closed first.

@@ -5,7 +5,7 @@ ghost use Rattle.zone_limits.specs.Resources.{taken, given_back, AreWithin, HasR
 use crate::limits::{Limits, Need};
 use zns_types::Geometry;
 
-/// Counts the resources that a command needs and was granted.
+/// Adds the resources that a command needs and was granted.
 pub fn take(limits: &mut Limits, g: &Geometry, need: Need)
     requires active { IsTrue need.active → HasRoom g.now.fields.active_limit limits.old.active }
     requires opened { IsTrue need.opened → HasRoom g.now.fields.open_limit limits.old.opened }
@@ -27,7 +27,7 @@ pub fn take(limits: &mut Limits, g: &Geometry, need: Need)
     }
 }
 
-/// Counts the resources that a zone gives back.
+/// Subtracts the resources that a zone gives back.
 pub fn give_back(limits: &mut Limits, need: Need)
     requires active { IsTrue need.active → 1 ≤ limits.old.active }
     requires opened { IsTrue need.opened → 1 ≤ limits.old.opened }

@@ -2,7 +2,7 @@ use super::*;
 use std::test::Fail;
 use zns_types::{Code, Geometry, GeometryFields};
 
-// Four zones, of which three may be active, two opened, and one may have a random write area.
+// Four zones, of which three may be active, two may be opened and one may have a random write area.
 const SMALL: GeometryFields = GeometryFields {
     block_exp: 9,
     mdts: 0,
@@ -20,7 +20,7 @@ const SMALL: GeometryFields = GeometryFields {
     depth: 64,
 };
 
-// An Open of an Empty zone with a random write area.
+// What an Open of an Empty zone with a random write area needs.
 const ALL: Need = Need {
     active: true,
     opened: true,

@@ -17,7 +17,7 @@ counted-same g old new same = rw (
   count-same (λ x. (new x).window) (λ x. (old x).window) g.zones (λ x lt. ap (λ (u : Need). u.window) (same x lt)),
 ) refl
 
--- the use of one zone has changed
+-- the total after the use of one zone has changed
 pub counted-set : (g : GeometryFields) (old new : ℕ → Need) (z : ℕ) → z < g.zones → ((x : ℕ) → x ≢ z → new x ≡ old x) → counted g new ≡ recounted (old z) (new z) (counted g old)
 unfolding counted
 counted-set g old new z lt same = rw (
@@ -26,7 +26,7 @@ counted-set g old new z lt same = rw (
   count-set (λ x. (new x).window) (λ x. (old x).window) z g.zones lt (λ x other. ap (λ (u : Need). u.window) (same x other)),
 ) refl
 
--- the uses of two zones have changed
+-- the total after the uses of two zones have changed
 pub counted-set_two : (g : GeometryFields) (old new : ℕ → Need) (y z : ℕ) → y ≢ z → y < g.zones → z < g.zones → ((x : ℕ) → x ≢ y → x ≢ z → new x ≡ old x)
     → counted g new ≡ recounted (old z) (new z) (recounted (old y) (new y) (counted g old))
 counted-set_two g old new y z apart y_lt z_lt same =

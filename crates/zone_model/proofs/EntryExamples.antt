@@ -45,7 +45,7 @@ rounds-facts :
 unfolding io_command admin_command deeds pointer_since state_of window_of block_of attributes_of counted closed_zones had_excursion cleared waited changed_zone changed enabled masked pending waiting status evicted zone_deed fires answer answered_back answered acts_on entries_on dwords_of posted reply_bytes result_bytes
 rounds-facts = (refl, refl)
 
--- blocks that were written, and zeros before them
+-- a Read of blocks that were written, with zeros before them
 read_written : reads drive (answered drive (open_with_window 0 ∷ write 4 2 (filled 2 0x11) ∷ write 5 1 (filled 1 0x22) ∷ [])) (read 3 3 ∷ []) ≡ (filled 1 0 ++ (filled 1 0x11 ++ filled 1 0x22)) ∷ []
 unfolding io_command admin_command deeds pointer_since state_of window_of block_of attributes_of counted closed_zones had_excursion cleared waited changed_zone changed enabled masked pending waiting status evicted zone_deed fires answer answered_back answered acts_on entries_on dwords_of posted reply_bytes result_bytes
 read_written = refl

@@ -1,4 +1,4 @@
--- Worked examples on events and the log page of changed zones, on their order and what ends them, computed.
+-- Worked examples on events and the log page of changed zones, with their order and what clears them, computed.
 use Rattle.std.proofs.Common.{◌≡◌, ℕ, true, false, List, [], ◌∷◌, ◌++◌, map, take, refl}
 use Rattle.std.specs.Prelude.{replicate}
 use Rattle.std.specs.List.{flat_map}
@@ -54,7 +54,7 @@ unset_notices cid = act_on 0 0x09 cid 0x0b 0x07ffffff 0 0 []
 abbrev pub retain_changed : ℕ → Act
 retain_changed cid = act_on 0 0x02 cid 0x03ff80bf 0 0 0 []
 
--- the oldest request is answered, and the next one only after the changed zones were read
+-- the oldest request is answered, and the next one only after the changed zones have been read
 oldest-first : answered_by (set_notices 1 ∷ event_request 6 ∷ event_request 7 ∷ excursion 2 64 4 ∷ excursion 3 128 4 ∷ read_changed 4 ∷ excursion 5 192 4 ∷ []) ≡ (1 ∷ []) ∷ [] ∷ [] ∷ (2 ∷ 6 ∷ []) ∷ (3 ∷ []) ∷ (4 ∷ []) ∷ (5 ∷ 7 ∷ []) ∷ []
 unfolding io_command admin_command deeds pointer_since state_of window_of block_of attributes_of counted closed_zones had_excursion cleared waited changed_zone changed enabled masked pending waiting status evicted zone_deed fires answer answered_back answered acts_on entries_on dwords_of posted reply_bytes
 oldest-first = refl
@@ -119,7 +119,7 @@ two_queues-facts :
 unfolding io_command admin_command deeds pointer_since state_of window_of block_of attributes_of counted closed_zones had_excursion cleared waited changed_zone changed enabled masked pending waiting status evicted zone_deed fires answer answered_back answered acts_on entries_on dwords_of posted reply_bytes
 two_queues-facts = (refl, refl, refl)
 
--- an Append that is refused has no result
+-- a refused Append has no result
 two_queues-results : map (map (λ (c : Cqe). c.dw0)) (posts ring_of_two [] two_queues) ≡ (0 ∷ []) ∷ [] ∷ (64 ∷ []) ∷ (0 ∷ 0x00bfef02 ∷ []) ∷ (0 ∷ []) ∷ (0 ∷ []) ∷ (128 ∷ []) ∷ []
 unfolding io_command admin_command deeds pointer_since state_of window_of block_of attributes_of counted closed_zones had_excursion cleared waited changed_zone changed enabled masked pending waiting status evicted zone_deed fires answer answered_back answered acts_on entries_on dwords_of posted reply_bytes
 two_queues-results = refl

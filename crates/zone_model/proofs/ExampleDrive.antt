@@ -28,7 +28,7 @@ act_on queue opcode cid dw10 dw11 dw12 dw13 payload = record {
   payload = payload;
 }
 
--- blocks that all hold one byte
+-- the data of blocks that are filled with one byte
 abbrev pub filled : ℕ → ℕ → List ℕ
 filled blocks byte = replicate (blocks * 512) byte
 
@@ -67,7 +67,7 @@ abbrev pub posts : GeometryFields → List Place → List Act → List (List Cqe
 posts g h [] = []
 posts g h (a ∷ acts) = posted g h a ∷ posts g (and_then g h a) acts
 
--- the bytes that they read
+-- the bytes that each act reads
 abbrev pub reads : GeometryFields → List Place → List Act → List (List ℕ)
 reads g h [] = []
 reads g h (a ∷ acts) = reply_bytes g h a ∷ reads g (and_then g h a) acts

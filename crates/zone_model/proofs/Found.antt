@@ -11,7 +11,7 @@ pub some_of : {A : Type 0} (b : Bool) (o : Option A) (m : A) → cond b o None �
 some_of true o m e = (refl, e)
 some_of false o m e = absurd cc
 
--- what is found passes the test, and is one of the numbers
+-- the number found passes the test and is in the range
 pub find-range : (test : ℕ → Bool) (from n x : ℕ) → find test (range_with_len from n) ≡ Some x → (test x ≡ true) × (from ≤ x) × (x < from + n)
 find-range test from zero x e = absurd cc
 find-range test from (suc n) x e = by_first (test from) refl e (find-range test (from + 1) n x)

@@ -9,19 +9,19 @@ use Rattle.zns_types.proofs.RowLemmas.{none_holds}
 use Rattle.drive_rules.specs.Aims.{open_code, commit_code}
 use Rattle.drive_rules.specs.Tables.{write_front, read_front, append_front, send_front, excursion_front}
 
--- the blocks of a Write are blocks of the namespace
+-- the blocks of a Write are within the namespace
 pub write_front-within : (g : GeometryFields) (nsid slba blocks : ℕ) → first_holding (write_front g nsid slba blocks) ≡ None → slba + blocks ≤ all_blocks g
 write_front-within g nsid slba blocks e = let (_, (_, (beyond, _))) = none_holds (write_front g nsid slba blocks) e in ltb-false _ _ beyond
 
--- and those of a Read
+-- and so are those of a Read
 pub read_front-within : (g : GeometryFields) (nsid slba blocks : ℕ) → first_holding (read_front g nsid slba blocks) ≡ None → slba + blocks ≤ all_blocks g
 read_front-within g nsid slba blocks e = let (_, (_, (beyond, _))) = none_holds (read_front g nsid slba blocks) e in ltb-false _ _ beyond
 
--- the first block of an Append is a block of the namespace
+-- the first block of an Append is within the namespace
 pub append_front-within : (g : GeometryFields) (nsid zslba blocks : ℕ) → first_holding (append_front g nsid zslba blocks) ≡ None → zslba < all_blocks g
 append_front-within g nsid zslba blocks e = let (_, (_, (beyond, _))) = none_holds (append_front g nsid zslba blocks) e in leb-false _ _ beyond
 
--- and that of an excursion
+-- and so is that of an excursion
 pub excursion_front-within : (g : GeometryFields) (nsid slba kind : ℕ) → first_holding (excursion_front g nsid slba kind) ≡ None → slba < all_blocks g
 excursion_front-within g nsid slba kind e = let (_, (_, (beyond, _))) = none_holds (excursion_front g nsid slba kind) e in leb-false _ _ beyond
 

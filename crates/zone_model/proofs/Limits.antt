@@ -63,12 +63,12 @@ all_within limit old more new room le some = by_case (and_cases (not (limit == 0
 
 -- ---- one zone
 
--- what a zone needs for what is done to it
+-- the resources that a zone needs for what is done to it
 abbrev needed : Option Deed → Zone → Need
 needed None zone = no_need
 needed (Some d) zone = need_for d zone
 
--- what is used afterwards was used before, or is needed
+-- whatever is used afterwards was used before or is needed
 pub record TakesNeeded (before need after : Need) : Type 0 where
   pub active : one after.active ≤ one before.active + one need.active
   pub opened : one after.opened ≤ one before.opened + one need.opened
@@ -106,7 +106,7 @@ counted-grows g old new t need others here = record {
   windows = count-le_but (λ x. (new x).window) (λ x. (old x).window) t (one need.window) g.zones (λ x other. omega (arith, (others x other).window)) here.window;
 }
 
--- one zone was closed for another
+-- closing one zone for another leaves no more zones open
 opened-swap : (g : GeometryFields) (old new : ℕ → Need) (y t : ℕ) → y < g.zones → (old y).opened ≡ true → (new y).opened ≡ false → ((z : ℕ) → z ≢ t → TakesNeeded (old z) no_need (new z)) → (counted g new).opened ≤ (counted g old).opened
 unfolding counted
 opened-swap g old new y t lt was gone others = count-le_swap (λ x. (new x).opened) (λ x. (old x).opened) y t g.zones lt was gone (λ x other. omega (arith, (others x other).opened))

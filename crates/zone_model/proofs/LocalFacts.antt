@@ -73,7 +73,7 @@ read_is_local g s t slba blocks same =
 no_range : (g : GeometryFields) → IsRange g []
 no_range g = record { first = 0; count = 0; all = refl; within = omega arith }
 
--- a block of the namespace is in one of its zones
+-- the zone of a block of the namespace is a zone of the drive
 zone_of-below : (g : GeometryFields) (lba : ℕ) → IsGeometry g → lba < all_blocks g → zone_of g lba < g.zones
 zone_of-below g lba is within = div_below lba g.zone_size g.zones is.zones.zone_size within
 

@@ -1,4 +1,4 @@
--- An act that succeeds: no row of its command holds.
+-- When an act succeeds, no row of its command holds.
 use Rattle.std.proofs.Common.{◌≡◌, ℕ, Bool, true, false, cond, List, [], ◌∷◌, ◌++◌, Option, Some, None, refl}
 use Rattle.std.specs.Prelude.{◌&&◌, ◌==◌, not, is_some, unwrap_or}
 use Rattle.std.specs.List.{list_all}
@@ -105,7 +105,7 @@ success-passes g h a ok =
 pub aim-passes : (g : GeometryFields) (h : List Place) (a : Act) (aim : Aim) → is_success (status g h a) ≡ true → aim_of g (command_of a) ≡ Some aim → Passes g h (table_by g h (command_of a) (Some aim))
 aim-passes g h a aim ok e = rw e at (success-passes g h a ok)
 
--- The front of a table is that of its command.
+-- The front rows of a table are those of its command.
 pub table_by-front : (g : GeometryFields) (h : List Place) (k : Cmd) (aim : Option Aim) → (table_by g h k aim).front ≡ front_rows g k
 table_by-front g h k None = refl
 table_by-front g h k (Some aim) = refl

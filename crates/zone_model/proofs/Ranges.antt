@@ -10,7 +10,7 @@ use Rattle.drive_rules.specs.Shown.{one}
 
 -- ---- sums
 
--- the sum over n numbers from a on
+-- the sum over n numbers, starting with a
 abbrev sum_of : (ℕ → ℕ) → ℕ → ℕ → ℕ
 sum_of f a n = sum_by f (range_with_len a n)
 
@@ -46,7 +46,7 @@ sum_of-same k a (suc n) = omega (arith, step (λ x. k) a n, sum_of-same k (a + 1
 
 -- ---- counts
 
--- how many of the numbers below n pass
+-- how many of the numbers below n pass the test
 abbrev pub count_below : (ℕ → Bool) → ℕ → ℕ
 count_below test n = count_by test (range_with_len 0 n)
 
@@ -96,7 +96,7 @@ count-le_but f g z d n e here = elim (cases_lt z n) [
   | inr past ↦ let le = count-le f g n (λ x lt. e x (omega arith)) in omega arith
 ]
 
--- A count changes by what the test of one number changes.
+-- If only the test of z changes, the count changes by just that.
 pub count-set : (f g : ℕ → Bool) (z n : ℕ) → z < n → ((x : ℕ) → x ≢ z → f x ≡ g x) → count_below f n ≡ more (f z) (fewer (g z) (count_below g n))
 count-set f g z n lt e =
     let le = sum_of-le_at (λ x. one (f x)) (λ x. one (g x)) z 0 n (omega arith) (omega arith) (λ x other. let same = ap one (e x other) in omega arith) in

@@ -67,7 +67,7 @@ open-resources : answers drive (crowded drive) (open_zone 192 ∷ open_zone 128 
 unfolding io_command admin_command deeds pointer_since state_of window_of counted closed_zones had_excursion cleared waited enabled masked pending waiting status evicted zone_deed fires answer answered_back answered
 open-resources = refl
 
--- on a drive without random write areas
+-- Opens on a drive without random write areas
 open-facts :
     (answers plain (crowded plain) (open_with_window 192 ∷ open_zone 192 ∷ []) ≡ invalid_zone_operation ∷ too_many_active_zones ∷ [])
     × (answers plain (answered plain (finish 64 ∷ [])) (open_with_window 64 ∷ []) ≡ invalid_zone_state_transition ∷ [])

@@ -46,7 +46,7 @@ reports-whole : reads drive one_written (report_from 0 192 0 0 ∷ report_from 0
 unfolding io_command admin_command deeds pointer_since state_of window_of block_of attributes_of counted closed_zones had_excursion cleared waited changed_zone changed enabled masked pending waiting status evicted zone_deed fires answer answered_back answered acts_on entries_on dwords_of posted reply_bytes
 reports-whole = refl
 
--- the Empty zones, the Implicitly Opened one, and the Full ones, of which there are none
+-- reports of the Empty zones, of the Implicitly Opened one, and of the Full ones, of which there are none
 reports-filtered : reads drive one_written (report_from 0 320 1 0 ∷ report_from 0 192 1 1 ∷ report_from 0 128 2 0 ∷ report_from 0 128 5 1 ∷ []) ≡ (head 3 ++ (shown 0 ++ (shown 2 ++ (shown 3 ++ replicate 64 0)))) ∷ (head 2 ++ (shown 0 ++ shown 2)) ∷ (head 1 ++ shown 1) ∷ (head 0 ++ replicate 64 0) ∷ []
 unfolding io_command admin_command deeds pointer_since state_of window_of block_of attributes_of counted closed_zones had_excursion cleared waited changed_zone changed enabled masked pending waiting status evicted zone_deed fires answer answered_back answered acts_on entries_on dwords_of posted reply_bytes
 reports-filtered = refl
@@ -56,7 +56,7 @@ reports-from : reads drive one_written (report_from 100 320 0 0 ∷ report_from 
 unfolding io_command admin_command deeds pointer_since state_of window_of block_of attributes_of counted closed_zones had_excursion cleared waited changed_zone changed enabled masked pending waiting status evicted zone_deed fires answer answered_back answered acts_on entries_on dwords_of posted reply_bytes
 reports-from = refl
 
--- no descriptor is cut, but the head is
+-- descriptors are never cut short, but the head may be
 reports-short : reads drive one_written (report_from 0 4 0 0 ∷ report_from 0 124 0 0 ∷ report_from 0 124 0 1 ∷ report_from 0 188 0 1 ∷ []) ≡ (4 ∷ 0 ∷ 0 ∷ 0 ∷ []) ∷ (head 4 ++ replicate 60 0) ∷ (head 0 ++ replicate 60 0) ∷ (head 1 ++ (shown 0 ++ replicate 60 0)) ∷ []
 unfolding io_command admin_command deeds pointer_since state_of window_of block_of attributes_of counted closed_zones had_excursion cleared waited changed_zone changed enabled masked pending waiting status evicted zone_deed fires answer answered_back answered acts_on entries_on dwords_of posted reply_bytes
 reports-short = refl

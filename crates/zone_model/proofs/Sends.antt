@@ -24,7 +24,7 @@ MovesSome (cmd.Read nsid slba blocks) = 1 ≤ blocks
 MovesSome (cmd.Append nsid zslba blocks) = 1 ≤ blocks
 MovesSome _ = Unit {0}
 
--- a command that moves blocks moves one or more
+-- a command that moves blocks moves at least one
 pub record HasBlocks (c : Cmd) : Type 0 where
   pub some : MovesSome c
 
@@ -89,7 +89,7 @@ pub aimed-deed : (zone : ℕ) (o : Option Deed) (aim : Aim) → aimed_at zone o 
 aimed-deed zone None aim e = absurd (cc e)
 aimed-deed zone (Some d) aim e = let same : record { zone = zone; deed = d } ≡ aim = cc in (ap (λ (x : Aim). x.zone) (sym same), ap (λ (x : Aim). Some x.deed) same)
 
--- a write that a command aims at a zone has one block or more
+-- a write that a command aims at a zone has at least one block
 pub aim-blocks : (g : GeometryFields) (k : Cmd) (aim : Aim) → HasBlocks k → aim_of g k ≡ Some aim → is_write aim.deed ≡ true → 1 ≤ deeds.blocks_of aim.deed
 aim-blocks g (cmd.Write nsid slba blocks) aim has e write = let same : deed.Write (offset_of g slba) blocks ≡ aim.deed = cc in subst (λ (d : Deed). 1 ≤ deeds.blocks_of d) same has.some
 aim-blocks g (cmd.Append nsid zslba blocks) aim has e write = let same : deed.Append blocks ≡ aim.deed = cc in subst (λ (d : Deed). 1 ≤ deeds.blocks_of d) same has.some

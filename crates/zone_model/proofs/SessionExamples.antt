@@ -34,7 +34,7 @@ merge-orders = refl
 header : header_bytes (record drive { mdts = 5; zasl = 3; flags = 1 }) 2 ≡ (0x5a ∷ 0x4e ∷ 0x53 ∷ 0x51 ∷ 0x30 ∷ 0x30 ∷ 0x30 ∷ 0x31 ∷ []) ++ ((9 ∷ 5 ∷ 3 ∷ 1 ∷ 4 ∷ 0 ∷ 0 ∷ 0 ∷ 64 ∷ 0 ∷ 0 ∷ 0 ∷ 0 ∷ 0 ∷ 0 ∷ 0 ∷ 48 ∷ 0 ∷ 0 ∷ 0 ∷ 0 ∷ 0 ∷ 0 ∷ 0 ∷ []) ++ ((3 ∷ 0 ∷ 0 ∷ 0 ∷ 2 ∷ 0 ∷ 0 ∷ 0 ∷ 1 ∷ 0 ∷ 0 ∷ 0 ∷ 4 ∷ 0 ∷ 8 ∷ 0 ∷ 2 ∷ 0 ∷ 64 ∷ 0 ∷ 2 ∷ 0 ∷ 0 ∷ 0 ∷ []) ++ replicate 8 0))
 header = refl
 
--- one Write of one block
+-- a session of one Write of one block
 abbrev pub one_write : Recorded
 one_write = record { geometry = drive; acts = put 0 1 ∷ [] }
 
@@ -62,7 +62,7 @@ reply-parts : drop 16 (take 72 (result_bytes drive (1 ∷ 1 ∷ []) (put 0 1 ∷
 unfolding io_command admin_command deeds pointer_since state_of window_of block_of attributes_of counted closed_zones had_excursion cleared waited changed_zone changed enabled masked pending waiting status evicted zone_deed fires answer answered_back answered acts_on entries_on dwords_of posted reply_bytes result_bytes
 reply-parts = refl
 
--- an act that waits has no entry, and one that answers it has two
+-- an event request that waits has no entry, and the act that answers it has two
 event-parts : drop 18 (take 68 (result_bytes drive (0 ∷ 0 ∷ 0 ∷ []) (set_notices 1 ∷ event_request 9 ∷ excursion 3 64 4 ∷ []))) ≡ (1 ∷ 0 ∷ []) ++ (replicate 8 0 ++ ((1 ∷ 0 ∷ 0 ∷ 0 ∷ 1 ∷ 0 ∷ 1 ∷ 0 ∷ 0 ∷ 0 ∷ 0 ∷ 0 ∷ []) ++ ((0 ∷ 0 ∷ 0 ∷ 0 ∷ 0 ∷ 0 ∷ 2 ∷ 0 ∷ []) ++ (replicate 8 0 ++ (3 ∷ 0 ∷ 0 ∷ 0 ∷ 3 ∷ 0 ∷ 1 ∷ 0 ∷ 2 ∷ 0xef ∷ 0xbf ∷ 0 ∷ [])))))
 unfolding io_command admin_command deeds pointer_since state_of window_of block_of attributes_of counted closed_zones had_excursion cleared waited changed_zone changed enabled masked pending waiting status evicted zone_deed fires answer answered_back answered acts_on entries_on dwords_of posted reply_bytes result_bytes
 event-parts = refl

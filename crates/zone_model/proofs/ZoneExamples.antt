@@ -37,7 +37,7 @@ written_again-facts :
 unfolding io_command admin_command deeds pointer_since state_of window_of block_of attributes_of counted closed_zones had_excursion cleared waited enabled masked pending waiting status evicted zone_deed fires answer answered_back answered
 written_again-facts = (refl, refl, refl)
 
--- a write to the end of the window commits nothing
+-- a write up to the end of the window commits nothing
 to_window_end-pointer : pointer drive (answered drive (open_with_window 0 ∷ write 7 1 (filled 1 0x11) ∷ [])) 0 ≡ 0
 unfolding io_command admin_command deeds pointer_since state_of window_of block_of attributes_of counted closed_zones had_excursion cleared waited enabled masked pending waiting status evicted zone_deed fires answer answered_back answered
 to_window_end-pointer = refl
@@ -58,7 +58,7 @@ past_two_windows-facts :
 unfolding io_command admin_command deeds pointer_since state_of window_of block_of attributes_of counted closed_zones had_excursion cleared waited enabled masked pending waiting status evicted zone_deed fires answer answered_back answered
 past_two_windows-facts = (refl, refl)
 
--- within two windows, and past the capacity
+-- a write that ends within two windows, but past the capacity
 abbrev pub past_capacity : List Place
 past_capacity = answered drive (open_with_window 0 ∷ commit_to 7 ∷ commit_to 15 ∷ commit_to 23 ∷ commit_to 31 ∷ commit_to 39 ∷ commit_to 43 ∷ write 48 1 (filled 1 0x11) ∷ [])
 
@@ -87,7 +87,7 @@ bad_commits-facts :
 unfolding io_command admin_command deeds pointer_since state_of window_of block_of attributes_of counted closed_zones had_excursion cleared waited enabled masked pending waiting status evicted zone_deed fires answer answered_back answered
 bad_commits-facts = (refl, refl)
 
--- the one window is taken
+-- the only window is taken
 abbrev pub no_window : List Place
 no_window = answered drive (open_with_window 0 ∷ open_with_window 64 ∷ [])
 
@@ -97,7 +97,7 @@ no_window-facts :
 unfolding io_command admin_command deeds pointer_since state_of window_of block_of attributes_of counted closed_zones had_excursion cleared waited enabled masked pending waiting status evicted zone_deed fires answer answered_back answered
 no_window-facts = (refl, refl)
 
--- zones that were opened explicitly are not closed for another
+-- Explicitly Opened zones are not closed to make room for another
 no_open_zone-statuses : statuses (answered drive (open_zone 0 ∷ open_zone 64 ∷ write 128 1 (filled 1 0x11) ∷ [])) ≡ too_many_open_zones ∷ success ∷ success ∷ []
 unfolding io_command admin_command deeds pointer_since state_of window_of block_of attributes_of counted closed_zones had_excursion cleared waited enabled masked pending waiting status evicted zone_deed fires answer answered_back answered
 no_open_zone-statuses = refl
@@ -138,7 +138,7 @@ read_past_end : statuses (answered drive (act_on 1 0x02 1 0xffffffff 0xffffffff 
 unfolding io_command admin_command deeds pointer_since state_of window_of block_of attributes_of counted closed_zones had_excursion cleared waited enabled masked pending waiting status evicted zone_deed fires answer answered_back answered
 read_past_end = refl
 
--- what becomes of a Read Only, a Full, an Implicitly and an Explicitly Opened zone
+-- what becomes of a Read Only, a Full, an Implicitly Opened and an Explicitly Opened zone after a Send to all zones
 abbrev pub after_all : ℕ → List State
 after_all code = states (answered drive (mixed_acts ++ send_all code ∷ []))
 
@@ -155,15 +155,14 @@ after_all-facts :
 unfolding io_command admin_command deeds pointer_since state_of window_of block_of attributes_of counted closed_zones had_excursion cleared waited enabled masked pending waiting status evicted zone_deed fires answer answered_back answered
 after_all-facts = (refl, refl, refl, refl, refl)
 
--- whether each action with Select All takes Empty, Implicitly Opened, Explicitly Opened, Closed, Full, Read Only and
--- Offline zones
+-- which states each action with Select All takes: Empty, Implicitly Opened, Explicitly Opened, Closed, Full, Read Only and Offline
 abbrev pub taken : Deed → List Bool
 taken a = map (takes_all a) (Empty ∷ ImplicitlyOpened ∷ ExplicitlyOpened ∷ Closed ∷ Full ∷ ReadOnly ∷ Offline ∷ [])
 
 taken-by_all : map taken (deed.Close ∷ deed.Finish ∷ deed.Open false ∷ deed.Reset ∷ deed.Offline ∷ deed.Commit 0 ∷ []) ≡ (false ∷ true ∷ true ∷ false ∷ false ∷ false ∷ false ∷ []) ∷ (false ∷ true ∷ true ∷ true ∷ false ∷ false ∷ false ∷ []) ∷ (false ∷ false ∷ false ∷ true ∷ false ∷ false ∷ false ∷ []) ∷ (false ∷ true ∷ true ∷ true ∷ true ∷ false ∷ false ∷ []) ∷ (false ∷ false ∷ false ∷ false ∷ false ∷ true ∷ false ∷ []) ∷ (false ∷ false ∷ false ∷ false ∷ false ∷ false ∷ false ∷ []) ∷ []
 taken-by_all = refl
 
--- an Empty zone, a Closed and an opened one: a Finish of all leaves the first, and an Open takes the second
+-- an Empty zone, a Closed one and an open one: a Finish of all leaves the first as it is, and an Open of all takes the second
 abbrev pub closed_one : List Place
 closed_one = answered drive (put 0 1 ∷ close_zone 0 ∷ put 64 1 ∷ send_all 0x03 ∷ [])
 
@@ -186,7 +185,7 @@ evicts-facts :
 unfolding io_command admin_command deeds pointer_since state_of window_of block_of attributes_of counted closed_zones had_excursion cleared waited enabled masked pending waiting status evicted zone_deed fires answer answered_back answered
 evicts-facts = (refl, refl)
 
--- no zone is closed below the limit, nor for a zone that is open, nor for a command that is refused
+-- no zone is closed below the limit, for a zone that is already open, or for a command that is refused
 evicts-not_below :
     (states (answered drive (put 0 1 ∷ put 64 1 ∷ [])) ≡ ImplicitlyOpened ∷ ImplicitlyOpened ∷ Empty ∷ Empty ∷ [])
     × (states (answered drive (put 0 1 ∷ put 64 1 ∷ put 1 1 ∷ open_zone 64 ∷ [])) ≡ ImplicitlyOpened ∷ ExplicitlyOpened ∷ Empty ∷ Empty ∷ [])

@@ -22,7 +22,7 @@ use Rattle.zone_model.specs.Answers.{move_of, zone_deed, zone_move, and_then, an
 use Rattle.zone_model.specs.Laws.{is_reset, IsKeptBlock, KeepsCommitted, HasMoved, MovesPointers}
 use Rattle.zone_model.proofs.Deeds.{done_by, deeds-idle, deeds-done, admitted, all_admitted}
 
--- an act's deed was admitted after those before it, which were
+-- an act's deed was admitted after the earlier ones, which were admitted too
 pub admitted_after : (g : GeometryFields) (acts : List Act) (a : Act) (z : ℕ) (d : Deed) → zone_deed g (answered g acts) a z ≡ Some d → AreAdmitted g (done_by a d ∷ deeds (answered g acts) z)
 admitted_after g acts a z d e = (admitted g (answered g acts) a z d e, all_admitted g acts z)
 
@@ -32,7 +32,7 @@ reset-action : (d : Deed) → is_reset (Some (deed_of.action_of d)) ≡ deed_of.
 reset-action deed.Reset = refl
 reset-action _ = refl
 
--- a block that is kept over the deeds of a zone is kept over the places
+-- a block that is kept by the deeds of a zone is kept by the places
 kept_block : (g : GeometryFields) (old new : List Place) (z b : ℕ) (ds : List Done) → deeds new z ≡ ds → moves.IsKeptBlock g (deeds old z) ds b → IsKeptBlock g old new z b
 kept_block g old new z b ds same kept = record {
   committed = ap (λ (xs : List Done). is_committed g xs b) same ∙ kept.committed;

@@ -58,7 +58,7 @@ evicted_by g h t = if wants_room g (counts g h) (judging_rows t) t.need then evi
 unfoldable pub evicted : GeometryFields → List Place → Act → Option ℕ
 evicted g h a = evicted_by g h (table_of g h (command_of a))
 
--- a deed to every zone whose state takes it
+-- a deed that is done to every zone whose state takes it
 abbrev pub swept : Option Deed → State → Option Deed
 swept None s = None
 swept (Some d) s = if takes_all d s then Some d else None
@@ -80,7 +80,7 @@ abbrev pub or_close : Option Deed → Bool → Option Deed
 or_close (Some d) evicts = Some d
 or_close None evicts = if evicts then Some deed.Close else None
 
--- What an act does to a zone; an act that is refused does nothing.
+-- What an act does to a zone. A refused act does nothing.
 unfoldable pub zone_deed : GeometryFields → List Place → Act → ℕ → Option Deed
 zone_deed g h a z = if is_success (status g h a) then or_close (commanded g h (command_of a) z) (is_zone z (evicted g h a)) else None
 

@@ -1,4 +1,4 @@
--- How much is in use after an act, by what it does to the zones that it changes.
+-- How many resources are in use after an act, by what it does to the zones that it changes.
 use Rattle.std.specs.Prelude.{◌≡◌, ℕ, ◌<◌, true, List, Option, Some, None}
 use Rattle.zns_types.specs.declared.fields.GeometryFields.{GeometryFields}
 use Rattle.zns_types.specs.Statuses.{is_success}

@@ -1,4 +1,4 @@
--- The completion entries that an act posts.
+-- The completion queue entries that an act posts.
 use Rattle.std.specs.Prelude.{ℕ, ◌+◌, ◌/◌, ◌%◌, ◌^◌, Bool, not, ◌&&◌, ◌==◌, if◌then◌else◌, List, [], ◌∷◌, Option, Some, is_some, is_none}
 use Rattle.zns_types.specs.declared.fields.GeometryFields.{GeometryFields}
 use Rattle.zns_types.specs.Geometry.{zone_of, first}
@@ -18,8 +18,8 @@ use Rattle.zone_model.specs.Answers.{status, fires}
 unfoldable pub acts_on : ℕ → List Place → ℕ
 acts_on queue h = total (λ p. one (p.act.queue == queue)) h
 
--- the entries that a place posted on a queue: its own, unless it waits, and on queue 0 that of the event request
--- that an excursion answered
+-- the number of entries that a place posted on a queue: its own, unless it waits, and on queue 0 also that of the event request that its
+-- excursion answered
 abbrev pub posted_on : ℕ → Place → ℕ
 posted_on queue p = one ((p.act.queue == queue) && not (waited p)) + one ((queue == 0) && had_excursion p && is_some p.fired)
 
@@ -34,7 +34,7 @@ depth_of g queue = g.depth
 abbrev pub head_of : GeometryFields → ℕ → ℕ → ℕ
 head_of g queue acts = acts % depth_of g queue
 
--- the phase tag of a queue's entry number k from 0: 1 in the first turn of the ring, 0 in the second, and so on
+-- the phase tag of a queue's k-th entry, counted from 0: 1 in the first round of the ring, 0 in the second, and so on
 abbrev pub phase_of : GeometryFields → ℕ → ℕ → Bool
 phase_of g queue k = k / depth_of g queue % 2 == 0
 
@@ -46,11 +46,11 @@ pub record Dwords : Type 0 where
 abbrev pub no_dwords : Dwords
 no_dwords = record { dw0 = 0; dw1 = 0 }
 
--- a block's number, the low half first
+-- a block's number, low half first
 abbrev pub block_dwords : ℕ → Dwords
 block_dwords lba = record { dw0 = lba % 2 ^ 32; dw1 = lba / 2 ^ 32 }
 
--- zone descriptor changed, and the page that lists the zones; namespace 1
+-- a Zone Descriptor Changed event, the log page that lists the zones, and namespace 1
 abbrev pub event_dwords : Dwords
 event_dwords = record { dw0 = 0x00bfef02; dw1 = 1 }
 
@@ -82,7 +82,7 @@ entry g queue acts entries cid status dwords = record {
 abbrev pub own_entry : GeometryFields → List Place → Act → Cqe
 own_entry g h a = entry g a.queue (acts_on a.queue h + 1) (entries_on a.queue h) (cid_of a.sqe.bytes) (status g h a) (dwords_of g h a)
 
--- the entry of an event request on the admin queue that an act there answers: it comes after the act's own
+-- the entry of the event request that an act on the admin queue answers, which comes after the act's own
 abbrev pub event_entry : GeometryFields → List Place → ℕ → Cqe
 event_entry g h cid = entry g 0 (acts_on 0 h + 1) (entries_on 0 h + 1) cid success event_dwords
 
@@ -94,7 +94,6 @@ abbrev pub event_entries : GeometryFields → List Place → Cmd → Option ℕ 
 event_entries g h (cmd.Excursion nsid slba kind) (Some cid) = event_entry g h cid ∷ []
 event_entries g h _ _ = []
 
--- An act posts its own entry, unless it is an event request that waits, and after it the entry of the event request
--- that it answers.
+-- An act posts its own entry, unless it is an event request that waits, and then the entry of the event request that it answers.
 unfoldable pub posted : GeometryFields → List Place → Act → List Cqe
 posted g h a = if waits g h a then [] else own_entry g h a ∷ event_entries g h (command_of a) (fires g h a)

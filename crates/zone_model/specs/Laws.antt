@@ -32,7 +32,7 @@ pub record IsUnchanged (g : GeometryFields) (old new : List Place) (z : ℕ) : T
   pub blocks : (b : ℕ) → block g new z b ≡ block g old z b
   pub attributes : attributes g new z ≡ attributes g old z
 
--- and so is the drive
+-- the whole drive is the same after the new places as after the old ones
 pub record IsAsBefore (g : GeometryFields) (old new : List Place) : Type 0 where
   pub zones : (z : ℕ) → IsUnchanged g old new z
   pub active : active g new ≡ active g old
@@ -48,7 +48,7 @@ pub record IsAsBefore (g : GeometryFields) (old new : List Place) : Type 0 where
 abbrev pub RefusedChangesNothing : Type 0
 RefusedChangesNothing = (g : GeometryFields) (h : List Place) (a : Act) → is_success (status g h a) ≡ false → IsAsBefore g h (and_then g h a)
 
--- a row with this code holds, and none before it does
+-- a row with this code holds, and no earlier row does
 pub record FirstHolds (rows : List (Row Status)) (code : Status) : Type 0 where
   pub earlier : List (Row Status)
   pub row : Row Status
@@ -71,13 +71,13 @@ is_reached g a z = list_any (λ y. y == z) (reach g a)
 abbrev pub UntouchedIsIdle : Type 0
 UntouchedIsIdle = (g : GeometryFields) (h : List Place) (a : Act) (z : ℕ) → z < g.zones → is_reached g a z ≡ false → is_zone z (evicted g h a) ≡ false → zone_deed g h a z ≡ None
 
--- So it stays as it was.
+-- So such a zone stays as it was.
 abbrev pub UntouchedStays : Type 0
 UntouchedStays = (g : GeometryFields) (h : List Place) (a : Act) (z : ℕ) → z < g.zones → is_reached g a z ≡ false → is_zone z (evicted g h a) ≡ false → IsUnchanged g h (and_then g h a) z
 
 -- ---- committed blocks
 
--- the deed leads to Offline
+-- the action takes the zone Offline
 abbrev pub goes_offline : State → Option Action → Bool
 goes_offline s None = false
 goes_offline s (Some a) = is_offline (after a s)
@@ -95,7 +95,7 @@ pub record IsKeptBlock (g : GeometryFields) (old new : List Place) (z b : ℕ) :
 abbrev pub KeepsCommitted : GeometryFields → List Place → Act → Type 0
 KeepsCommitted g h a = (z b : ℕ) → committed g h z b ≡ true → is_reset (zone_move g h a z) ≡ false → goes_offline (state g h z) (zone_move g h a z) ≡ false → IsKeptBlock g h (and_then g h a) z b
 
--- Until the zone is reset or goes Offline, a committed block stays committed and reads the same.
+-- A committed block stays committed and reads the same until its zone is reset or goes Offline.
 abbrev pub CommittedStays : Type 0
 CommittedStays = (g : GeometryFields) → IsGeometry g → (acts : List Act) (a : Act) → KeepsCommitted g (answered g acts) a
 
@@ -115,8 +115,8 @@ MovesPointers g h a = (z : ℕ) → window g h z ≡ true → pointer g (and_the
 abbrev pub PointerMoves : Type 0
 PointerMoves = (g : GeometryFields) → IsGeometry g → (acts : List Act) (a : Act) → MovesPointers g (answered g acts) a
 
--- The pointer of a zone with a random write area is the least multiple of the granule at or past what was written before
--- the area was asked for, past the last block of each commit, and where each Write ends inside the area.
+-- The pointer of a zone with a random write area is the least multiple of the granule that is at or after what was written before the area
+-- was asked for, is past the last block of each commit, and lets each Write end inside the area.
 abbrev pub PointerIsLeast : Type 0
 PointerIsLeast = (g : GeometryFields) → IsGeometry g → (acts : List Act) (z : ℕ) → window g (answered g acts) z ≡ true
     → IsLeast (IsBoundary g (since (deeds (answered g acts) z))) (pointer g (answered g acts) z)

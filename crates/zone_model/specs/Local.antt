@@ -22,7 +22,7 @@ use Rattle.zone_model.specs.Reach.{reach}
 abbrev pub act_table : GeometryFields → List Place → Act → Table
 act_table g h a = table_of g h (command_of a)
 
--- another zone has to give way to the act, or it is refused
+-- another zone has to give way to the act, or else it is refused
 abbrev pub act_wants_room : GeometryFields → List Place → Act → Bool
 act_wants_room g h a = wants_room g (counts g h) (judging_rows (act_table g h a)) (act_table g h a).need
 

@@ -1,5 +1,5 @@
--- The changed zones and the events that tell of them: NVM Express Base Specification 2.0, 5.2 (Asynchronous Event
--- Request), and Zoned Namespace Command Set Specification 1.1, 4.1.3 and 4.1.4.
+-- The changed zones and the events that report them: NVM Express Base Specification 2.0, 5.2 (Asynchronous Event Request), and Zoned
+-- Namespace Command Set Specification 1.1, 4.1.3 and 4.1.4.
 use Rattle.std.specs.Prelude.{ℕ, Bool, false, not, ◌&&◌, ◌||◌, if◌then◌else◌, List, [], ◌∷◌, ◌++◌, drop, filter, Option, Some, None, is_some}
 use Rattle.std.specs.List.{list_any}
 use Rattle.zns_types.specs.declared.fields.GeometryFields.{GeometryFields}
@@ -15,7 +15,7 @@ use Rattle.drive_rules.specs.Shown.{one}
 unfoldable pub changed : GeometryFields → List Place → List ℕ
 changed g h = filter (λ z. list_any (changed_zone g z) (since_cleared h)) (zones g)
 
--- Zone descriptor changed notices: bit 27 of the asynchronous event configuration.
+-- Zone Descriptor Changed notices: bit 27 of the asynchronous event configuration.
 abbrev pub enabled_by : Bool → Cmd → Bool → Bool
 enabled_by took (cmd.SetFeature feature value) before = if took then bit 27 value else before
 enabled_by took _ before = before
@@ -42,7 +42,7 @@ abbrev pub requests : List Place → List ℕ
 requests [] = []
 requests (p ∷ h) = if waited p then requests h ++ cid_of p.act.sqe.bytes ∷ [] else requests h
 
--- how many of them an excursion has answered
+-- how many of these requests an excursion has answered
 abbrev pub answered_requests : List Place → ℕ
 answered_requests h = total (λ p. one (had_excursion p && is_some p.fired)) h
 

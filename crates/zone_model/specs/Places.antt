@@ -33,14 +33,14 @@ abbrev pub with_deed : Option Deed → List ℕ → List Done → List Done
 with_deed None payload ds = ds
 with_deed (Some d) payload ds = record { deed = d; payload = payload } ∷ ds
 
--- What was done to a zone, the newest deed first.
+-- What was done to a zone, newest deed first.
 unfoldable pub deeds : List Place → ℕ → List Done
 deeds [] z = []
 deeds (p ∷ h) z = with_deed (p.deed z) p.act.payload (deeds h z)
 
 -- ---- what a place did to the notices
 
--- the command lets the controller act on a zone
+-- the command makes the controller act on a zone
 abbrev pub is_excursion : Cmd → Bool
 is_excursion (cmd.Excursion nsid slba kind) = true
 is_excursion _ = false
@@ -56,7 +56,7 @@ changed_zone g z p = took p && changes g z (command_of p.act)
 unfoldable pub had_excursion : Place → Bool
 had_excursion p = took p && is_excursion (command_of p.act)
 
--- a log page that is read with Retain Asynchronous Event clear
+-- a log page is read with Retain Asynchronous Event clear
 abbrev pub reads_and_clears : Cmd → Bool
 reads_and_clears (cmd.GetLog nsid page bytes offset retain) = not retain
 reads_and_clears _ = false
@@ -68,11 +68,11 @@ abbrev pub is_event_request : Cmd → Bool
 is_event_request cmd.Event = true
 is_event_request _ = false
 
--- an event request that was not answered at once
+-- an event request succeeded but was not answered at once
 unfoldable pub waited : Place → Bool
 waited p = took p && is_event_request (command_of p.act) && not (is_some p.fired)
 
--- the places after the changed zones were last read and cleared
+-- the places since the changed zones were last read and cleared
 abbrev pub since_cleared : List Place → List Place
 since_cleared [] = []
 since_cleared (p ∷ h) = if cleared p then [] else p ∷ since_cleared h

@@ -18,7 +18,7 @@ use Rattle.zone_model.specs.Answers.{status}
 abbrev pub descriptors : GeometryFields → List Place → List Descriptor
 descriptors g h = map (descriptor g h) (zones g)
 
--- the bytes of blocks in order
+-- the bytes of the blocks, in order
 abbrev pub blocks_read : GeometryFields → List Place → ℕ → ℕ → List ℕ
 blocks_read g h slba blocks = flat_map (λ lba. seen g h (zone_of g lba) (offset_of g lba)) (range_with_len slba blocks)
 
@@ -30,6 +30,6 @@ read_by g h (cmd.Identify nsid cns csi) = unwrap_or (page_of cns csi g) []
 read_by g h (cmd.GetLog nsid page bytes offset retain) = first_bytes bytes (changed_page g (changed g h))
 read_by g h _ = []
 
--- An act that is refused reads nothing.
+-- The bytes that an act reads. A refused act reads nothing.
 unfoldable pub reply_bytes : GeometryFields → List Place → Act → List ℕ
 reply_bytes g h a = if is_success (status g h a) then read_by g h (command_of a) else []

@@ -93,7 +93,7 @@ is_of queue a = a.queue == queue
 abbrev pub next_of : ℕ → List Act → Option Act
 next_of queue acts = find (is_of queue) acts
 
--- the acts without the first of a queue
+-- the acts without the first one of a queue
 abbrev pub rest_of : ℕ → List Act → List Act
 rest_of queue [] = []
 rest_of queue (a ∷ acts) = if is_of queue a then acts else a ∷ rest_of queue acts
@@ -157,7 +157,7 @@ result_bytes g order acts =
 abbrev pub result_of : Recorded → List ℕ → List ℕ
 result_of s order = result_bytes s.geometry order (merge s order)
 
--- the bytes name an order of the session, and are its result in that order
+-- the order is an order of the session, and the bytes are its result in that order
 pub record IsResult (s : Recorded) (order bytes : List ℕ) : Type 0 where
   pub each_once : IsOrder s.acts order
   pub spelled : bytes ≡ result_of s order

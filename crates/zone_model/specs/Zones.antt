@@ -1,4 +1,4 @@
--- What a history has made of each zone, and how much of the drive's resources is in use.
+-- What has become of each zone after a history, and how many of the drive's resources are in use.
 use Rattle.std.specs.Prelude.{ℕ, Bool, List, Option, count_by}
 use Rattle.std.specs.List.{range_with_len}
 use Rattle.zns_types.specs.declared.fields.GeometryFields.{GeometryFields}

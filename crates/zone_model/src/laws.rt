@@ -25,7 +25,7 @@ pub fn untouched_stays()
     ensures { UntouchedStays }
 {}
 
-/// Until its zone is reset or goes Offline, a committed block stays committed and reads the same.
+/// A committed block stays committed and reads the same until its zone is reset or goes Offline.
 pub fn committed_stays()
     ensures { CommittedStays }
 {}

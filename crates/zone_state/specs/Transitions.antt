@@ -31,7 +31,7 @@ turns_read_only = by_state (Ok ReadOnly) (Ok ReadOnly) (Ok ReadOnly) (Ok ReadOnl
 abbrev pub turns_offline : State → Result State Status
 turns_offline = by_state (Ok Offline) (Ok Offline) (Ok Offline) (Ok Offline) (Ok Offline) (Ok Offline) refused
 
--- by the kind of excursion; another kind leads nowhere
+-- where an excursion leads, by its kind; an unknown kind leads nowhere
 abbrev pub excursion : ℕ → State → Result State Status
 excursion kind s =
     if kind == 1 then controller_finishes s
@@ -52,7 +52,7 @@ go action.Reset = by_state (Ok Empty) (Ok Empty) (Ok Empty) (Ok Empty) (Ok Empty
 go action.Offline = by_state refused refused refused refused refused (Ok Offline) (Ok Offline)
 go (action.Excursion kind) = excursion kind
 
--- the state that an action leads to, and the same state where it leads nowhere
+-- the state that an action leads to, or the same state if it leads nowhere
 abbrev pub after : Action → State → State
 after a s = elim (go a s) [ Ok t ↦ t | Err _ ↦ s ]
 

@@ -1,4 +1,4 @@
-//! What happens to a zone, and the states that it leads to.
+//! What can happen to a zone, and the states that it leads to.
 #![tactic(auto)]
 
 mod action;

@@ -23,8 +23,8 @@ const NONE: Cell = Err(Code { sct: 1, sc: 0xb6 });
 
 const REFUSED: Cell = Err(Code { sct: 1, sc: 0xbf });
 
-// The first state, by its place in the order of the profile's columns, from which the action leads
-// elsewhere than the row says.
+// The first state, by its place in the order of the profile's columns, from which the action
+// doesn't lead where the row says.
 fn first_wrong(action: Action, row: &[Cell; 7]) -> Option<usize> {
     let states = [
         State::Empty,
@@ -43,7 +43,7 @@ fn first_wrong(action: Action, row: &[Cell; 7]) -> Option<usize> {
     None
 }
 
-// Every cell of the profile's table, and two excursions that it doesn't have.
+// Every cell of the profile's table, and two excursions that aren't in it.
 #[test]
 fn transitions(rt: HostRuntime) -> Result<(), Fail> {
     let full = Err(Code { sct: 1, sc: 0xb9 });

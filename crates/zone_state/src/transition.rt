@@ -6,7 +6,7 @@ ghost use Rattle.zone_state.specs.Transitions.{go as table, controller_finishes,
 use crate::action::Action;
 use zns_types::{Code, State};
 
-/// The state that an action leads to, or the status by which the state refuses it.
+/// The state that an action leads to, or the status with which the state refuses it.
 pub fn go(state: State, action: Action) -> Result<State, Code>
     ensures { result ≡ table action state }
 {

@@ -9,11 +9,11 @@ least_multiple-covers g bound pos =
     let past = lt-div-mul-add {a = bound + g - 1} {b = g} (omega arith) in
     omega arith
 
--- it is less than a granule past it
+-- it is less than a granule past the bound
 pub least_multiple-close : (g bound : ℕ) → 1 ≤ g → least_multiple g bound < bound + g
 least_multiple-close g bound pos = omega (arith, div-mul-le_self (bound + g - 1) g)
 
--- where j granules aren't a whole granule past k, there are no more of them
+-- if j granules are less than a granule past k of them, j is at most k
 pub fewer_granules : (g j k : ℕ) → j * g < k * g + g → j ≤ k
 fewer_granules g j k h =
     let more : k * g + g ≡ suc k * g = omega (arith, add-mul k 1 g) in
@@ -26,7 +26,7 @@ least_multiple-least g bound k pos h =
     let close = least_multiple-close g bound pos in
     mul-le-mul_right g (fewer_granules g ((bound + g - 1) / g) k (omega arith))
 
--- so it is the least multiple from the bound on
+-- so it is the least multiple that reaches the bound
 pub least_multiple-is_least : (g bound : ℕ) → 1 ≤ g → IsLeast (IsMultipleFrom g bound) (least_multiple g bound)
 least_multiple-is_least g bound pos = record {
   holds = record { multiple = ((bound + g - 1) / g, refl); covers = least_multiple-covers g bound pos };
@@ -36,7 +36,7 @@ least_multiple-is_least g bound pos = record {
 same_number : (m n : ℕ) → m ≤ n → n ≤ m → m ≡ n
 same_number m n le ge = omega arith
 
--- a multiple that reaches it and is less than a granule past it
+-- a multiple that reaches the bound and is less than a granule past it
 pub least_multiple-between : (g bound k : ℕ) → 1 ≤ g → bound ≤ k * g → k * g < bound + g → least_multiple g bound ≡ k * g
 least_multiple-between g bound k pos low high =
     let covers = least_multiple-covers g bound pos in
@@ -46,23 +46,23 @@ least_multiple-between g bound k pos low high =
 pub least_multiple-mod : (g bound : ℕ) → least_multiple g bound % g ≡ 0
 least_multiple-mod g bound = mul-mod_left ((bound + g - 1) / g) g
 
--- a multiple is so many granules
+-- a multiple is a whole number of granules
 pub granules_of : (g p : ℕ) → p % g ≡ 0 → p / g * g ≡ p
 granules_of g p e = omega (arith, div-add-mod' p g)
 
--- a multiple is the least from itself on
+-- a multiple is the least one that reaches itself
 pub least_multiple-same : (g p : ℕ) → 1 ≤ g → p % g ≡ 0 → least_multiple g p ≡ p
 least_multiple-same g p pos e =
     let whole = granules_of g p e in
     least_multiple-between g p (p / g) pos (omega arith) (omega arith) ∙ whole
 
--- a multiple stays where what it is to reach lies at it or before
+-- a multiple stays the same if the bound to reach is at most the multiple
 pub least_multiple-stays : (g p b : ℕ) → 1 ≤ g → p % g ≡ 0 → b ≤ p → least_multiple g (max p b) ≡ p
 least_multiple-stays g p b pos e le =
     let same : max p b ≡ p = omega arith in
     rw same (least_multiple-same g p pos e)
 
--- to reach a bound and then another is to reach both
+-- reaching one bound and then another is reaching both
 pub least_multiple-max : (g a b : ℕ) → 1 ≤ g → least_multiple g (max a (least_multiple g b)) ≡ least_multiple g (max a b)
 least_multiple-max g a b pos =
     let k = (max a b + g - 1) / g in
@@ -72,6 +72,6 @@ least_multiple-max g a b pos =
     let second = least_multiple-least g b k pos (omega arith) in
     least_multiple-between g (max a (least_multiple g b)) k pos (omega arith) (omega arith)
 
--- a greater bound is reached no sooner
+-- a greater bound has no smaller least multiple
 pub least_multiple-mono : (g a b : ℕ) → 1 ≤ g → a ≤ b → least_multiple g a ≤ least_multiple g b
 least_multiple-mono g a b pos le = least_multiple-least g a ((b + g - 1) / g) pos (omega (arith, least_multiple-covers g b pos))

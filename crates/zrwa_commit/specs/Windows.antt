@@ -6,11 +6,11 @@ use Rattle.zns_types.specs.Statuses.{Status, zone_boundary_error, invalid_field}
 use Rattle.zns_types.specs.Rows.{Row, when}
 use Rattle.zrwa_commit.specs.Least.{IsLeast}
 
--- A write goes into the area or as far again past it, and nowhere before it.
+-- A write starts at or after the pointer, and goes into the area or at most as far again past it.
 abbrev pub is_admitted : GeometryFields → ℕ → ℕ → ℕ → Bool
 is_admitted g pointer from end = nat_le pointer from && nat_le end (pointer + 2 * g.window)
 
--- with so many granules committed, a write up to end lies in the area
+-- with this many granules committed, a write up to end lies in the area
 abbrev pub Suffices : GeometryFields → ℕ → ℕ → ℕ → Type 0
 Suffices g pointer end granules = end ≤ pointer + granules * g.granule + g.window
 
@@ -28,7 +28,7 @@ commit_bounds g pointer last = nat_lt last pointer || nat_lt (pointer + g.window
 abbrev pub cuts_granule : GeometryFields → ℕ → ℕ → Bool
 cuts_granule g pointer last = not ((last - pointer + 1) % g.granule == 0)
 
--- What refuses an explicit commit, in order.
+-- What refuses an explicit commit, in order of precedence.
 abbrev pub commit_rows : GeometryFields → ℕ → ℕ → List (Row Status)
 commit_rows g pointer last =
     when (commit_bounds g pointer last) zone_boundary_error

@@ -4,7 +4,8 @@ ghost use Rattle.zrwa_commit.specs.Windows.{commit_rows};
 
 use zns_types::{Code, Geometry};
 
-/// The pointer after a commit of the blocks up to the offset `last`, or the status that refuses it.
+/// The write pointer after a commit of the blocks from `p` up to and including the offset `last`,
+/// or the status that refuses it.
 pub fn explicit(p: u64, last: u64, g: &Geometry) -> Result<u64, Code>
     requires windows { 1 ≤ g.now.fields.windows }
     requires pointer { p < 2 ^ 32 }

@@ -4,8 +4,8 @@ ghost use Rattle.zrwa_commit.specs.Windows.{is_admitted, FewestGranules};
 
 use zns_types::Geometry;
 
-/// Whether a write of `count` blocks from an offset on goes into the random write area, or as far
-/// again past it.
+/// Whether a write of `count` blocks from the offset `from` on is admitted when the write pointer
+/// is `p`: into the random write area, or at most as far again past it.
 pub fn admits(p: u64, from: u64, count: u32, g: &Geometry) -> bool
     requires pointer { p < 2 ^ 32 }
     requires offset { from < 2 ^ 32 }
@@ -14,7 +14,7 @@ pub fn admits(p: u64, from: u64, count: u32, g: &Geometry) -> bool
     p <= from && from + u64::from(count) <= p + 2 * u64::from(g.fields().window)
 }
 
-/// The pointer after a write that ends before the offset `end`.
+/// The write pointer after a write that ends before the offset `end`, if it was at `p`.
 pub fn implicit(p: u64, end: u64, g: &Geometry) -> u64
     requires windows { 1 ≤ g.now.fields.windows }
     requires pointer { p < 2 ^ 32 }

@@ -2,7 +2,7 @@ use super::*;
 use std::test::Fail;
 use zns_types::{Code, Geometry, GeometryFields};
 
-// Random write areas of 8 blocks, committed by 4, in zones of 48 blocks.
+// Random write areas of 8 blocks, committed 4 at a time, in zones of 48 blocks.
 const SMALL: GeometryFields = GeometryFields {
     block_exp: 9,
     mdts: 0,

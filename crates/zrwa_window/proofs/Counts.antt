@@ -12,7 +12,7 @@ use Rattle.std.proofs.lemmas.Bool.{cases_eq}
 use Rattle.zrwa_window.specs.Marks.{is_set}
 use Rattle.zrwa_window.proofs.Loops.{CountsTo}
 
--- so many numbers from one on, and so many more
+-- `m` numbers from `a` on, followed by the next `n`
 pub range_with_len-append : (a m n : ℕ) → range_with_len a m ++ range_with_len (a + m) n ≡ range_with_len a (m + n)
 range_with_len-append a zero n =
     let e : a + 0 ≡ a = omega arith in
@@ -36,7 +36,7 @@ one_bit (suc (suc n)) lt = absurd (omega arith)
 both : (a b c d : ℕ) → a ≡ c → b ≡ d → a + b ≡ d + c
 both a b c d e f = omega arith
 
--- the bits of a word from low on
+-- the `n` bits of a word from `low` on
 pub count_ones-range : (word low n : ℕ) → count_ones (word / 2 ^ low % 2 ^ n) ≡ count_by (λ i. eqb (bit_at word i) 1) (range_with_len low n)
 count_ones-range word low zero =
     let none : word / 2 ^ low % 1 ≡ 0 = omega arith in
@@ -52,7 +52,7 @@ count_ones-range word low (suc n) =
     ∙ both (count_ones high) (count_ones lowest) _ _ (count_ones-range word (low + 1) n) (one_bit lowest (bit_at-lt word low))
     ∙ sym (sum_by-cons (λ i. cond (eqb (bit_at word i) 1) 1 0) low (range_with_len (low + 1) n)))
 
--- the bits of a word that a mask has
+-- the bits of a word that are in a mask
 pub count_ones-mask : (word low high : ℕ) → low ≤ high → count_ones (bit_and word (2 ^ high - 2 ^ low)) ≡ count_by (λ i. eqb (bit_at word i) 1) (range_with_len low (high - low))
 count_ones-mask word low high le =
     let n = high - low in
@@ -74,7 +74,7 @@ count_by-word words i low (suc n) within =
     ∙ rw (head, next) (ap (λ x. cond (eqb (bit_at (slice_index words i) low) 1) 1 0 + x) (count_by-word words i (low + 1) n (omega arith)))
     ∙ sym (sum_by-cons (λ j. cond (eqb (bit_at (slice_index words i) j) 1) 1 0) low (range_with_len (low + 1) n))
 
--- a count up to a place in a word, and the word's part from there on
+-- a count up to a place in a word, and the part of the word from there on
 pub count_by-more : (words : List ℕ) (from at high set : ℕ) → from ≤ at → at % 64 < high → high ≤ 64 → set ≡ count_by (is_set words) (range_with_len from (at - from))
     → set + count_ones (bit_and (slice_index words (at / 64)) (2 ^ high - 2 ^ (at % 64))) ≡ count_by (is_set words) (range_with_len from (at + (high - at % 64) - from))
 count_by-more words from at high set order low within so_far =
@@ -84,11 +84,11 @@ count_by-more words from at high set order low within so_far =
     rw (whole, count_by-range_with_len-append (is_set words) from (at - from) n, start, count_by-word words (at / 64) (at % 64) n (omega arith), ← so_far)
     (ap (λ x. set + x) (count_ones-mask (slice_index words (at / 64)) (at % 64) high (omega arith)))
 
--- of so many blocks no more are counted
+-- at most `n` of `n` blocks are counted
 pub count_by-at_most : (p : ℕ → Bool) (a n : ℕ) → count_by p (range_with_len a n) ≤ n
 count_by-at_most p a n = omega (arith, count_by-le-length p (range_with_len a n), length-range_with_len a n)
 
--- one part of a word more
+-- one more part of a word
 pub CountsTo-more : (words : List ℕ) (from to at high set mask : ℕ) → CountsTo words from to at set → at < to → high ≡ min (to - (at - at % 64)) 64 → mask ≡ 2 ^ high - 2 ^ (at % 64)
     → CountsTo words from to (at + (high - at % 64)) (set + count_ones (bit_and (slice_index words (at / 64)) mask))
 CountsTo-more words from to at high set mask so_far lt part e = record {
@@ -97,6 +97,6 @@ CountsTo-more words from to at high set mask so_far lt part e = record {
   count = rw e (count_by-more words from at high set so_far.low (omega arith) (omega arith) so_far.count);
 }
 
--- no more are counted than there are
+-- at most as many are counted as there are
 pub CountsTo-bound : (words : List ℕ) (from to at set : ℕ) → CountsTo words from to at set → set ≤ to - from
 CountsTo-bound words from to at set so_far = omega (arith, so_far.count, so_far.high, count_by-at_most (is_set words) from (at - from))

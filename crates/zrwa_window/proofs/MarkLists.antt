@@ -40,7 +40,7 @@ inside from to b m le lt = grind (arith, nat_tests)
 after : (from to b : ℕ) (m : Bool) → to ≤ b → m ≡ (lies_within from to b || m)
 after from to b m le = grind (arith, nat_tests)
 
--- one of the marks, where some are marked
+-- one of the marks, after some blocks are marked
 pub get_or-marked : (marks : List Bool) (from count b : ℕ) (d : Bool) → from + count ≤ length marks → get_or (marked marks from count) b d ≡ (lies_within from (from + count) b || get_or marks b d)
 get_or-marked marks from count b d within =
     let front = take from marks in
@@ -81,7 +81,7 @@ one_of : (m : Bool) (a b n : ℕ) → a + b ≡ n → cond (not m) 1 0 + a + (co
 one_of true a b n e = omega arith
 one_of false a b n e = omega arith
 
--- the holes and the marks are all blocks
+-- the holes and the marks together are all blocks
 pub holes-marks_of : (blocks : ℕ) (words : List ℕ) (from n : ℕ) → from + n ≤ blocks → count_by not (take n (drop from (marks_of blocks words))) + count_by (is_set words) (range_with_len from n) ≡ n
 holes-marks_of blocks words from zero within = refl
 holes-marks_of blocks words from (suc n) within =

@@ -11,7 +11,7 @@ use Rattle.std.proofs.lemmas.Bool.Decides.{nat_tests}
 use Rattle.zrwa_window.specs.Marks.{is_set, lies_within}
 use Rattle.zrwa_window.proofs.Loops.{SetsTo}
 
--- so many ones, shifted to their place
+-- `n` ones, shifted to start at bit `low`
 pub shifted_ones : (n low : ℕ) → n + low ≤ 64 → (2 ^ n - 1) * 2 ^ low % 2 ^ 64 ≡ 2 ^ (n + low) - 2 ^ low
 shifted_ones n low within =
     let product : (2 ^ n - 1) * 2 ^ low ≡ 2 ^ (n + low) - 2 ^ low = mul_comm (2 ^ n - 1) (2 ^ low) ∙ mul-sub (2 ^ low) (2 ^ n) 1 ∙ rw (mul-one (2 ^ low), mul_comm (2 ^ low) (2 ^ n), ← pow-add 2 n low) refl in
@@ -26,7 +26,7 @@ mask-is low high some within =
     let sum : n + low ≡ high = omega arith in
     rw (ones, width) (shifted_ones n low (omega arith) ∙ ap (λ k. 2 ^ k - 2 ^ low) sum)
 
--- one bit of a word with a mask's bits set, by where it lies
+-- one bit of a word after a mask's bits are set, by where it lies
 below_mask : (m w k low high b : ℕ) → m ≡ max w k → k ≡ 0 → b < low → eqb m 1 ≡ (lies_within low high b || eqb w 1)
 below_mask m w k low high b e zero lt = grind (arith, nat_tests)
 
@@ -48,14 +48,14 @@ bit_or-mask word low high b =
       ]
     ]
 
--- a block of a word, and one of another word
+-- a block in a word, and one in another word
 within_word : (i low high b : ℕ) → high ≤ 64 → b / 64 ≡ i → lies_within (64 * i + low) (64 * i + high) b ≡ lies_within low high (b % 64)
 within_word i low high b small e = grind (arith, nat_tests)
 
 outside_word : (i low high b : ℕ) → high ≤ 64 → (b / 64 ≡ i → ⊥) → lies_within (64 * i + low) (64 * i + high) b ≡ false
 outside_word i low high b small e = grind (arith, nat_tests)
 
--- words of which one has a mask's bits set
+-- words after a mask's bits are set in one of them
 pub is_set-mask : (words : List ℕ) (i low high b : ℕ) → i < length words → high ≤ 64 → is_set (slice_set words i (bit_or (slice_index words i) (2 ^ high - 2 ^ low))) b ≡ (lies_within (64 * i + low) (64 * i + high) b || is_set words b)
 is_set-mask words i low high b there small =
     let word = bit_or (slice_index words i) (2 ^ high - 2 ^ low) in
@@ -64,11 +64,11 @@ is_set-mask words i low high b there small =
       | inr other ↦ rw (outside_word i low high b small other, get_or-set_other words i (b / 64) word 0 other) refl
     ]
 
--- what lies within two pieces that meet
+-- what lies within two adjoining ranges
 pub lies_within-more : (from at to b : ℕ) (m : Bool) → from ≤ at → at ≤ to → (lies_within at to b || (lies_within from at b || m)) ≡ (lies_within from to b || m)
 lies_within-more from at to b m p q = grind (arith, nat_tests)
 
--- one part of a word more
+-- one more part of a word
 pub SetsTo-more : (old new : List ℕ) (from to at high mask : ℕ) → SetsTo old new from to at → at < to → to ≤ 64 * length new → high ≡ min (to - (at - at % 64)) 64 → mask ≡ 2 ^ high - 2 ^ (at % 64)
     → SetsTo old (slice_set new (at / 64) (bit_or (slice_index new (at / 64)) mask)) from to (at + (high - at % 64))
 SetsTo-more old new from to at high mask so_far lt within part e =

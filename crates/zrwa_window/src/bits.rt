@@ -2,7 +2,7 @@ ghost use Rattle.std.specs.Prelude.{◌≡◌, ℕ, ◌-◌, ◌*◌, ◌^◌, �
 ghost use Rattle.std.specs.List.{range_with_len};
 ghost use Rattle.zrwa_window.specs.Marks.{is_set, lies_within};
 
-// The bits of a word from `low` up to `high`.
+// A word in which the bits from `low` up to but not including `high` are set.
 fn mask(low: usize, high: usize) -> u64
     requires some { low < high }
     requires within { high ≤ 64 }
@@ -11,7 +11,7 @@ fn mask(low: usize, high: usize) -> u64
     u64::MAX >> (64 - (high - low)) << low
 }
 
-/// Sets the bits of the blocks from `from` up to `to`, a word at a time.
+/// Sets the bits of the blocks from `from` up to but not including `to`, a word at a time.
 pub fn set_bits(words: &mut [u64], from: usize, to: usize)
     requires order { from ≤ to }
     requires within { to ≤ 64 * length words.old }
@@ -27,7 +27,8 @@ pub fn set_bits(words: &mut [u64], from: usize, to: usize)
     }
 }
 
-/// The number of set bits of the blocks from `from` up to `to`, counted a word at a time.
+/// How many bits of the blocks from `from` up to but not including `to` are set, counted a word at
+/// a time.
 pub fn count_bits(words: &[u64], from: usize, to: usize) -> usize
     requires order { from ≤ to }
     requires within { to ≤ 64 * length words.now }

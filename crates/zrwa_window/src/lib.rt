@@ -1,4 +1,4 @@
-//! Which blocks of a zone were written, a bit for each block.
+//! Which blocks of a zone were written, with one bit for each block.
 #![tactic(auto)]
 
 mod bits;

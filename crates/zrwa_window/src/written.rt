@@ -6,7 +6,7 @@ use std::alloc::Global;
 use std::marker::Model;
 use zns_io::NoMemory;
 
-/// Which blocks of a zone were written: a truth value for each block.
+/// Which blocks of a zone were written. Contracts see a truth value for each block.
 #[derive(Drop)]
 pub struct Written {
     blocks: u32,
@@ -25,7 +25,7 @@ impl Model for Written {
 }
 
 impl Written {
-    /// `blocks` blocks, none of which was written.
+    /// `blocks` blocks, none of them written.
     pub fn new(alloc: Global, blocks: u32) -> Result<Written, NoMemory>
         ensures { IfOk result (λ w. w ≡ replicate blocks false) }
     {
@@ -33,7 +33,7 @@ impl Written {
         Ok(Written { blocks, words })
     }
 
-    /// How many blocks there are.
+    /// The number of blocks.
     pub fn len(&self) -> u32
         ensures { result ≡ length self.now }
     {
@@ -59,7 +59,7 @@ impl Written {
         word >> (block % 64) & 1 == 1
     }
 
-    /// How many of the blocks from `from` up to `to` weren't written.
+    /// How many of the blocks from `from` up to but not including `to` weren't written.
     pub fn holes(&self, from: u32, to: u32) -> u32
         requires order { from ≤ to }
         requires within { to ≤ length self.now }

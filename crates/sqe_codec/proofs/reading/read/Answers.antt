@@ -1,4 +1,4 @@
--- An entry that isn't on the admin queue is on an I/O queue, and it spells no other command.
+-- An entry is on the admin queue or on an I/O queue, and spells no other command.
 use Rattle.std.proofs.Common.{◌≡◌, Bool, subst, sym, ◌∙◌, arith}
 use Rattle.std.proofs.lemmas.Grind.{common_steps}
 use Rattle.sqe_codec.specs.Commands.{command}

@@ -3,7 +3,7 @@ use Rattle.zns_runner.specs.Tails.{TailBytes, StaysIn}
 use Rattle.zns_runner.proofs.Tails.{stays_then, stays_taken}
 use Rattle.zns_runner.proofs.tail.Tail.drain.Goals as goal
 
--- what was held was taken, and then more was read
+-- the held bytes were taken, and then more was read
 stays_drained : (left mid now : Option (List ℕ)) (first held taken read : TailBytes) (all : List ℕ) → all ≡ held.held → StaysIn left mid first held → taken.held ≡ drop (length all) held.held → taken.at ≡ held.at + length all → StaysIn mid now taken read
     → StaysIn left now first read
 stays_drained left mid now first held taken read all same one rest at two =
