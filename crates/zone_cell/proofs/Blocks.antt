@@ -9,8 +9,8 @@ use Rattle.std.proofs.lemmas.Slice.{take-put_mid_below, drop-put_mid}
 use Rattle.std.proofs.lemmas.List.FromFn.{length-map-range_with_len, get_or-map-range_with_len, fill_by_all}
 use Rattle.std.proofs.lemmas.Nat.{mul-le, row_fits}
 use Rattle.std.proofs.lemmas.Bool.{cases_lt, le-leb, lt-ltb, lt-leb, le-ltb, and_left, and_right, and_from, and_parts, or_cases, ltb-true, true≢false}
-use Rattle.zrwa_window.specs.Marks.{marked, lies_within}
-use Rattle.zrwa_window.proofs.MarkLists.{length-marked, get_or-marked}
+use Rattle.written_blocks.specs.Marks.{marked, lies_within}
+use Rattle.written_blocks.proofs.MarkLists.{length-marked, get_or-marked}
 use Rattle.zns_io.specs.Padding.{padded}
 use Rattle.drive_rules.specs.Blocks.{block_at}
 use Rattle.zone_cell.specs.Cells.{with_blocks}

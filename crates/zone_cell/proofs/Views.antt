@@ -5,8 +5,8 @@ use Rattle.std.proofs.lemmas.Nat.{mul-le}
 use Rattle.std.proofs.lemmas.Bool.{cases_lt, true≢false}
 use Rattle.std.specs.Prelude.{is_some, max}
 use Rattle.std.proofs.lemmas.List.{get_or_past, length-map, same_lists, get_or_default, get_or-map}
-use Rattle.zrwa_window.specs.Marks.{marked, holes}
-use Rattle.zrwa_window.proofs.MarkLists.{length-marked}
+use Rattle.written_blocks.specs.Marks.{marked, holes}
+use Rattle.written_blocks.proofs.MarkLists.{length-marked}
 use Rattle.zns_types.specs.declared.fields.GeometryFields.{GeometryFields}
 use Rattle.zns_types.specs.Geometry.{block_len}
 use Rattle.zone_cell.specs.Cells.{Cell, IsOf, with_blocks, bytes_at}

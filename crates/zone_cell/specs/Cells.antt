@@ -13,7 +13,7 @@ use Rattle.zrwa_commit.specs.Least.{least_multiple}
 use Rattle.drive_rules.specs.ZoneRows.{Zone}
 use Rattle.drive_rules.specs.Blocks.{block_at, seen_block}
 use Rattle.drive_rules.specs.Shown.{shown_pointer, attribute_bits}
-use Rattle.zrwa_window.specs.Marks.{holes}
+use Rattle.written_blocks.specs.Marks.{holes}
 use Rattle.zone_descriptor.specs.declared.descriptor.Descriptor.{Descriptor}
 use Rattle.zone_cell.specs.Kept.{kept_blocks}
 

@@ -8,7 +8,7 @@ use std::alloc::Global;
 use std::marker::Model;
 use zns_io::NoMemory;
 use zns_types::{Geometry, State};
-use zrwa_window::Written;
+use written_blocks::Written;
 
 /// One zone: its state, its write pointer, and the blocks written since its last reset.
 #[derive(Drop)]

@@ -2,7 +2,7 @@ use Rattle.std.proofs.Common.{◌≡◌, ◌+◌, ◌*◌, ◌-◌, ap, sym, ◌
 use Rattle.std.proofs.Math.Nat.{add-mul}
 use Rattle.std.proofs.lemmas.List.{length-take, length-drop}
 use Rattle.zone_cell.specs.Cells.{Cell}
-use Rattle.zrwa_window.specs.Marks.{holes}
+use Rattle.written_blocks.specs.Marks.{holes}
 use Rattle.zone_cell.proofs.Views.{marks_of, marks_are, run_stands, run_ends}
 use Rattle.zone_cell.proofs.cell.ZoneCell.run.Goals.{then-count-eq0-via-then-count-eq0, then-count-eq0-via-else-count-eq0+then-end-from}
 use Rattle.zone_cell.proofs.cell.ZoneCell.run.Goals as goal

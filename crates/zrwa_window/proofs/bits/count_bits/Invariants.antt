@@ -1,9 +1,0 @@
-use Rattle.std.proofs.Common.{◌-◌}
-use Rattle.zrwa_window.proofs.Loops.{CountsTo}
-use Rattle.zrwa_window.proofs.bits.count_bits.Given as goal
-
-abbrev pub invariant-loop-at : goal.invariant-loop-at
-invariant-loop-at l = CountsTo l.words l.from l.to l.at l.set
-
-abbrev pub decreases-loop-at : goal.decreases-loop-at
-decreases-loop-at l = l.to - l.at

@@ -1,9 +1,0 @@
-use Rattle.std.proofs.Common.{◌-◌}
-use Rattle.zrwa_window.proofs.Loops.{SetsTo}
-use Rattle.zrwa_window.proofs.bits.set_bits.Given as goal
-
-abbrev pub invariant-loop-at : goal.invariant-loop-at
-invariant-loop-at l = SetsTo l.initial.words l.words l.from l.to l.at
-
-abbrev pub decreases-loop-at : goal.decreases-loop-at
-decreases-loop-at l = l.to - l.at
