@@ -1,0 +1,5 @@
+mod around;
+mod busy;
+mod edge;
+mod faults;
+mod sessions;

@@ -1,6 +1,0 @@
-use Rattle.std.proofs.Common.{take}
-use Rattle.zns_runner.specs.Differences.{StandAt}
-use Rattle.zns_runner.proofs.comparing.compare.Given as goal
-
-abbrev pub invariant-loop-byte : goal.invariant-loop-byte
-invariant-loop-byte l = StandAt l.input l.fn.at (take l.byte-index l.made) l.at

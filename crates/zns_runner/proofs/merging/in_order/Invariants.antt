@@ -1,5 +1,0 @@
-use Rattle.zns_runner.proofs.Mixing.{Mixes}
-use Rattle.zns_runner.proofs.merging.in_order.Given as goal
-
-abbrev pub invariant-loop-number : goal.invariant-loop-number
-invariant-loop-number l = Mixes l.count l.fn.acts.items l.order l.number l.queues.items l.mixed.items
