@@ -9,8 +9,6 @@ mod keeping;
 mod opening;
 mod serving;
 mod session;
-#[cfg(test)]
-mod tests;
 mod trying;
 mod words;
 

@@ -33,6 +33,3 @@ pub use session::Session;
 pub use streaming::{begin_from, read_from};
 pub use writing::write;
 pub use zone_model::{Act, Acts, Journal, Replies, Reply};
-
-#[cfg(test)]
-mod tests;

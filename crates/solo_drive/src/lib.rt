@@ -26,6 +26,3 @@ pub use reach::{Reach, reach_of};
 pub use readying::ready;
 pub use settling::settle;
 pub use solo::{Parts, Solo};
-
-#[cfg(test)]
-mod tests;

@@ -16,8 +16,6 @@ mod serving;
 mod sight;
 mod slot;
 mod steps;
-#[cfg(test)]
-mod tests;
 mod threads;
 mod waking;
 

@@ -6,7 +6,7 @@ use Rattle.zone_desk.specs.Passes.{Pass, Distinct, AllLive, Exactly}
 use Rattle.zone_desk.specs.declared.sight.Standing.{Standing}
 use Rattle.zone_desk.specs.declared.sight.Standing.TheVariants.{Free, Live}
 use Rattle.zone_desk.specs.declared.sight.Sight.{Sight}
-use Rattle.zone_desk.proofs.tests.passes_share_the_room.Goals as goal
+use Rattle.drive_tests.proofs.desks.passes_share_the_room.Goals as goal
 
 abbrev queue_of : Pass → ℕ
 queue_of p = p.sight.queue

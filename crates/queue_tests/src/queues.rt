@@ -1,7 +1,7 @@
 ghost use Rattle.std.specs.Prelude.{◌+◌, ◌<◌, ◌≤◌};
 ghost use Rattle.queue_controller.specs.Words.{HoldsNothing};
 
-use super::*;
+use queue_controller::{FreeGate, Gate, Tried, run_session, try_serve};
 use session_file::{Session, read};
 use sqe_codec::{Cmd, reply_len, transfer_len, write};
 use std::alloc::Global;
@@ -9,7 +9,7 @@ use std::sync::atomic::{AtomicU32, Ordering};
 use std::test::Fail;
 use std::thread;
 use zns_io::Bytes;
-use zns_types::{Code, Geometry, GeometryFields};
+use zns_types::{Code, Geometry, GeometryFields, SMALL_DRIVE};
 use zone_desk::{Desk, QueuePass};
 
 // Four zones of 48 blocks of 512 bytes, of which at most three may be active and two opened, and
@@ -236,24 +236,6 @@ fn all_commands_are_served_or_none(rt: HostRuntime) -> Result<(), Fail> {
     Ok(())
 }
 
-// The same drive.
-const SMALL: GeometryFields = GeometryFields {
-    block_exp: 9,
-    mdts: 0,
-    zasl: 0,
-    flags: 0,
-    zones: 4,
-    zone_size: 64,
-    capacity: 48,
-    active_limit: 3,
-    open_limit: 2,
-    windows: 1,
-    granule: 4,
-    window: 8,
-    queues: 3,
-    depth: 64,
-};
-
 // The outcome of a write of one block: its status, or the word that was held.
 #[derive(Clone, Copy, PartialEq, Eq, Debug)]
 enum Came {
@@ -289,7 +271,14 @@ fn try_write(alloc: Global, desk: &Desk, pass: &mut QueuePass, slba: u64) -> Res
 #[test]
 fn all_words_only_where_one_gives_way(rt: HostRuntime) -> Result<(), Fail> {
     let alloc = rt.alloc();
-    let (desk, mut main) = Desk::new(alloc, Geometry::new(SMALL)?, 6)?;
+    let (desk, mut main) = Desk::new(
+        alloc,
+        Geometry::new(GeometryFields {
+            queues: 3,
+            ..SMALL_DRIVE
+        })?,
+        6,
+    )?;
     let mut first = desk.pass(alloc, &mut main, 1, 5)?;
     let mut second = desk.pass(alloc, &mut main, 2, 1)?;
     let mut third = desk.pass(alloc, &mut main, 0, 0)?;

@@ -1,6 +1,6 @@
 use Rattle.std.proofs.Common.{refl, ap, ◌∙◌}
 use Rattle.zone_desk.specs.Passes.{Pass}
-use Rattle.queue_controller.proofs.tests.all_words_only_where_one_gives_way.Goals as goal
+use Rattle.queue_tests.proofs.queues.all_words_only_where_one_gives_way.Goals as goal
 
 pub put_back-requires : goal.put_back-requires
 put_back-requires g c =

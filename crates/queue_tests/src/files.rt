@@ -1,6 +1,9 @@
-use super::*;
 use arrayvec::ArrayVec;
 use cqe_codec::Cqe;
+use session_file::{
+    Act, Acts, Begun, Feed, FileErr, First, Journal, Reason, Replies, Reply, ResultFile,
+    begin_from, read, read_order_after, write, write_result,
+};
 use sqe_codec::Sqe;
 use std::alloc::Global;
 use std::test::Fail;
@@ -42,71 +45,6 @@ fn sessions_are_read_and_written(rt: HostRuntime) -> Result<(), Fail> {
 
 fn bad(reason: Reason, offset: u64) -> Option<FileErr> {
     Some(FileErr::Bad { reason, offset })
-}
-
-#[test]
-fn the_first_broken_rule_is_named(rt: HostRuntime) -> Result<(), Fail> {
-    let alloc = rt.alloc();
-    // a place, the bytes that are put there, the length of the file, and the answer
-    let rows: [(u8, &[u8], usize, Option<FileErr>); 8] = [
-        (0, b"Z", 648, None),
-        (0, b"Z", 63, bad(Reason::Short, 63)),
-        (0, b"Z", 600, bad(Reason::Short, 600)),
-        (0, b"Z", 649, bad(Reason::Trailing, 648)),
-        (64, &[17, 0], 648, bad(Reason::Queue, 64)),
-        (67, &[1], 648, bad(Reason::Reserved, 66)),
-        (68, &[0xff, 0x01], 648, bad(Reason::Length, 68)),
-        (
-            12,
-            &[0x88, 0x13],
-            648,
-            Some(FileErr::Large {
-                which: Which::Zones,
-                number: 5_000,
-            }),
-        ),
-    ];
-    for (place, new, len, answer) in rows {
-        let mut file = one_write(alloc)?;
-        for (i, byte) in new.iter().enumerate() {
-            if let Some(old) = file.get_mut(usize::from(place) + i) {
-                *old = *byte;
-            }
-        }
-        file.truncate(len);
-        assert_eq!(rt; read(alloc, &file).err(), answer, "at {place} and {len}");
-    }
-    Ok(())
-}
-
-#[test]
-fn orders_are_read(rt: HostRuntime) -> Result<(), Fail> {
-    let alloc = rt.alloc();
-    // a place, the byte that is put there, the length of the file, and the answer
-    let rows = [
-        (0, b'Z', 662, None),
-        (0, b'Z', 661, bad(Reason::Short, 661)),
-        (648, b'Y', 662, bad(Reason::ResultMagic, 648)),
-        (656, 2, 662, bad(Reason::ResultCount, 656)),
-        (660, 0, 662, bad(Reason::ResultOrder, 660)),
-    ];
-    for (place, byte, len, answer) in rows {
-        let mut file = one_write(alloc)?;
-        file.truncate(648);
-        file.extend_from_slice(b"ZNSR0001\x01\x00\x00\x00\x01\x00")?;
-        if let Some(old) = file.get_mut(place) {
-            *old = byte;
-        }
-        file.truncate(len);
-        let (session, end) = read_front(alloc, &file)?;
-        assert_eq!(rt; end, 648);
-        assert_eq!(rt;
-            read_order(alloc, &file, end, &session).err(),
-            answer,
-            "at {place} and {len}"
-        );
-    }
-    Ok(())
 }
 
 #[test]

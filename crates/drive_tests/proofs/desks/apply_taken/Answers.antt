@@ -4,7 +4,7 @@ use Rattle.solo_drive.specs.Parts.{AreLent}
 use Rattle.zone_desk.specs.Sights.{zones_held}
 use Rattle.zone_desk.specs.Passes.{Pass, IsIdle}
 use Rattle.zone_desk.proofs.Idle.{idle-given}
-use Rattle.zone_desk.proofs.tests.apply_taken.Goals as goal
+use Rattle.drive_tests.proofs.desks.apply_taken.Goals as goal
 
 pub apply_act-applied-requires-clause-zones : goal.apply_act-applied-requires-clause-zones
 apply_act-applied-requires-clause-zones g c =

@@ -5,7 +5,6 @@ ghost use Rattle.solo_drive.specs.Parts.{AreLent};
 ghost use Rattle.zone_desk.specs.Sights.{zones_held};
 ghost use Rattle.zone_desk.specs.Passes.{IsIdle};
 
-use super::*;
 use cqe_codec::Cqe;
 use solo_drive::Applied;
 use sqe_codec::{Sqe, reply_len, transfer_len};
@@ -13,24 +12,13 @@ use std::alloc::Global;
 use std::sync::Wait;
 use std::test::Fail;
 use zns_io::Bytes;
-use zns_types::{Code, Geometry, GeometryFields};
+use zns_types::{Code, Geometry, GeometryFields, SMALL_DRIVE};
+use zone_desk::{Desk, PassErr, QueuePass};
 
-// Four zones of 48 blocks of 512 bytes, of which at most three may be active and two opened.
+// The small drive with two I/O queues.
 const SMALL: GeometryFields = GeometryFields {
-    block_exp: 9,
-    mdts: 0,
-    zasl: 0,
-    flags: 0,
-    zones: 4,
-    zone_size: 64,
-    capacity: 48,
-    active_limit: 3,
-    open_limit: 2,
-    windows: 1,
-    granule: 4,
-    window: 8,
     queues: 3,
-    depth: 64,
+    ..SMALL_DRIVE
 };
 
 // Takes the book's word, and gives the book back.

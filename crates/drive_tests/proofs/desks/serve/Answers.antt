@@ -1,6 +1,6 @@
 use Rattle.std.proofs.Common.{ℕ, length, sym, subst, inr}
 use Rattle.solo_drive.specs.Drives.{HasLengths, act_of}
-use Rattle.zone_desk.proofs.tests.serve.Goals as goal
+use Rattle.drive_tests.proofs.desks.serve.Goals as goal
 
 pub apply_taken-requires-clause-lent : goal.apply_taken-requires-clause-lent
 apply_taken-requires-clause-lent g c = inr c.take_only.ensures.held

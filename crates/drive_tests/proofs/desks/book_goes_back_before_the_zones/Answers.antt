@@ -1,7 +1,7 @@
 use Rattle.std.proofs.Common.{rules, ◌≡◌, None, refl, ap, ◌∙◌, arith}
 use Rattle.zone_desk.specs.Passes.{Pass}
 use Rattle.zone_desk.specs.declared.sight.Sight.{Sight}
-use Rattle.zone_desk.proofs.tests.book_goes_back_before_the_zones.Goals as goal
+use Rattle.drive_tests.proofs.desks.book_goes_back_before_the_zones.Goals as goal
 
 pub take_word-requires-2-clause-desk : goal.take_word-requires-2-clause-desk
 take_word-requires-2-clause-desk g c = ap (λ (p : Pass). p.desk) (c.take_word.ensures.zone 0 refl).2 ∙ c.in_ok-first.ensures.desk

@@ -1,6 +1,6 @@
 use Rattle.std.proofs.Common.{◌≡◌, None}
 use Rattle.zone_desk.specs.Passes.{IsIdle}
-use Rattle.zone_desk.proofs.tests.told_of_rows.Given as goal
+use Rattle.drive_tests.proofs.desks.told_of_rows.Given as goal
 
 abbrev pub invariant-loop-row : goal.invariant-loop-row
 invariant-loop-row g l = record {

@@ -4,7 +4,7 @@ use Rattle.zone_cell.specs.Cells.{Cell}
 use Rattle.solo_drive.specs.Parts.{zones_in}
 use Rattle.zone_desk.specs.Sights.{in_order, zones_held}
 use Rattle.zone_desk.specs.Passes.{Pass}
-use Rattle.zone_desk.proofs.tests.take_only.Goals as goal
+use Rattle.drive_tests.proofs.desks.take_only.Goals as goal
 
 pub returns-clause-desk : goal.returns-clause-desk
 returns-clause-desk g c = ap (λ (p : Pass). p.desk) (c.take_word.ensures.zone 0 refl).2 ∙ c.requires.desk
