@@ -21,7 +21,7 @@ use Rattle.host_library.specs.declared.host_err.HostErr.TheVariants as error
 use Rattle.host_library.specs.Links.{Answer, IsAnswered, Gains, MayGain}
 use Rattle.host_library.specs.Asking.{IsAsked}
 use Rattle.host_library.specs.Hosts.{Hosted, HasShadows, AreTrue, HostStands}
-use Rattle.host_library.specs.Pumping.{status_in, verdict_of, shadows_after, ring_after, pumped, Sends, IsTold}
+use Rattle.host_library.specs.Pumping.{status_in, verdict_of, verdict_by, shadows_after, ring_after, pumped, Sends, IsTold}
 use Rattle.host_library.proofs.Asked.{asked-event}
 use Rattle.host_library.proofs.Rings.{stands-taken, stands-used, oldest, oldest-asked}
 use Rattle.host_library.proofs.ToldAnswers.{verdict-told}
@@ -41,11 +41,27 @@ answered_ring a rest cid bytes len = elim (cases_Bool (sets_unused bytes)) [
   ]
 ]
 
--- what comes back of a list that was lent whole
-lent_back : (n : ℕ) (new old : List Shadow) → length new ≡ n → take n (new ++ drop (length new) old) ≡ new
-lent_back n new old e = take_at new (drop (length new) old) n e
+-- the shadows that come back of a list that was lent whole
+made_back : (g : GeometryFields) (a : Act) (verdict : Result Done HostErr) (n : ℕ) (shadows lent new : List Shadow) (out : List ℕ)
+    → IsAsked g a → lent ≡ shadows → length new ≡ n → new ≡ shadows_after g (command false a.sqe.bytes) verdict out lent
+    → take n (new ++ drop (length new) shadows) ≡ shadows_after g (command_of a) verdict out shadows
+made_back g a verdict n shadows lent new out asked whole long made =
+    take_at new (drop (length new) shadows) n long
+    ∙ made
+    ∙ ap (λ (k : Cmd). shadows_after g k verdict out lent) (io_command g a asked)
+    ∙ ap (λ (xs : List Shadow). shadows_after g (command_of a) verdict out xs) whole
 
 -- ---- what is true of every host
+
+-- A host after its oldest command was sent, if the shadows are then the drive's.
+pumped-stands : (linked now : GeometryFields) (told after : Option (List Act)) (g : GeometryFields) (ring back : List Act) (room : ℕ) (a : Act) (verdict : Result Done HostErr) (n : ℕ) (shadows lent new : List Shadow) (out : List ℕ)
+    → HostStands linked told g ring room shadows → HostStands linked told g back room shadows → Some a ≡ slice_get ring 0 → now ≡ linked → lent ≡ shadows → length new ≡ n
+    → new ≡ shadows_after g (command false a.sqe.bytes) verdict out lent → HasShadows g new → AreTrue g after (shadows_after g (command_of a) verdict out shadows)
+    → HostStands now after g back room (take n (new ++ drop (length new) shadows))
+pumped-stands linked now told after g ring back room a verdict n shadows lent new out s left first same whole long made has true_then =
+    let exact = made_back g a verdict n shadows lent new out (oldest-asked g ring a first s.asked) whole long made in
+    let kept = take_at new (drop (length new) shadows) n long in
+    stands-used linked now told after g back room shadows (take n (new ++ drop (length new) shadows)) left same (subst (HasShadows g) (sym kept) has) (subst (AreTrue g after) (sym exact) true_then)
 
 -- A host whose oldest command was answered.
 pub answered-stands : (linked now : GeometryFields) (told after : Option (List Act)) (g : GeometryFields) (ring : List Act) (room : ℕ) (popped : Buffer Act) (a : Act) (n : ℕ) (shadows lent new : List Shadow) (bytes : List ℕ) (len : ℕ) (out : List ℕ)
@@ -54,30 +70,18 @@ pub answered-stands : (linked now : GeometryFields) (told after : Option (List A
     → new ≡ shadows_after g (command false a.sqe.bytes) (verdict_of (cid_of a.sqe.bytes) bytes len) out lent → HasShadows g new
     → HostStands now after g popped.items popped.capacity (take n (new ++ drop (length new) shadows))
 answered-stands linked now told after g ring room popped a n shadows lent new bytes len out s is first pops same gains answers whole long made has =
-    let asked : IsAsked g a = oldest-asked g ring a first s.asked in
-    let exact : new ≡ shadows_after g (command_of a) (verdict_of (cid_of a.sqe.bytes) bytes len) out shadows =
-    made
-    ∙ ap (λ (k : Cmd). shadows_after g k (verdict_of (cid_of a.sqe.bytes) bytes len) out lent) (io_command g a asked)
-    ∙ ap (λ (xs : List Shadow). shadows_after g (command_of a) (verdict_of (cid_of a.sqe.bytes) bytes len) out xs) whole in
     let follows : (acts : List Act) → told ≡ Some acts → IsAnswered g acts a bytes len out = λ acts e. subst (λ (h : GeometryFields). IsAnswered h acts a bytes len out) s.geometry (answers acts e) in
-    let true_then = answered-true g told after a bytes len out shadows is asked s.whole.len s.known gains follows in
-    let true_now : AreTrue g after new = subst (AreTrue g after) (sym exact) true_then in
-    let taken = stands-taken linked told g ring room shadows s in
-    let used = stands-used linked now told after g (drop 1 ring) room shadows new taken same has true_now in
-    rw (pops, lent_back n new shadows long) used
+    let true_then = answered-true g told after a bytes len out shadows is (oldest-asked g ring a first s.asked) s.whole.len s.known gains follows in
+    rw pops (pumped-stands linked now told after g ring (drop 1 ring) room a _ n shadows lent new out s (stands-taken linked told g ring room shadows s) first same whole long made has true_then)
 
 -- A host whose link failed.
 pub failed-stands : (linked now : GeometryFields) (told after : Option (List Act)) (g : GeometryFields) (ring back : List Act) (room places : ℕ) (a : Act) (n : ℕ) (shadows lent new : List Shadow)
     → HostStands linked told g ring room shadows → IsGeometry g → Some a ≡ slice_get ring 0 → back ≡ a ∷ drop 1 ring → places ≡ room → now ≡ linked → MayGain told after a → lent ≡ shadows → length new ≡ n
     → new ≡ shadows_after g (command false a.sqe.bytes) (Err error.LinkFault) [] lent → HasShadows g new → HostStands now after g back places (take n (new ++ drop (length new) shadows))
 failed-stands linked now told after g ring back room places a n shadows lent new s is first backs fits same gains whole long made has =
-    let asked : IsAsked g a = oldest-asked g ring a first s.asked in
-    let exact : new ≡ shadows_after g (command_of a) (Err error.LinkFault) [] shadows =
-    made ∙ ap (λ (k : Cmd). shadows_after g k (Err error.LinkFault) [] lent) (io_command g a asked) ∙ ap (λ (xs : List Shadow). shadows_after g (command_of a) (Err error.LinkFault) [] xs) whole in
-    let true_now : AreTrue g after new = subst (AreTrue g after) (sym exact) (failed-true g told after a shadows is asked s.whole.len s.known gains) in
-    let used = stands-used linked now told after g ring room shadows new s same has true_now in
     let again : back ≡ ring = backs ∙ sym (oldest ring a first) in
-    rw (again, fits, lent_back n new shadows long) used
+    let true_then = failed-true g told after a shadows is (oldest-asked g ring a first s.asked) s.whole.len s.known gains in
+    rw (again, fits) (pumped-stands linked now told after g ring ring room a (Err error.LinkFault) n shadows lent new [] s s first same whole long made has true_then)
 
 -- ---- what the call did
 
@@ -86,51 +90,39 @@ module _ {L : Type 0} where
       → ◌≡◌ {A = Hosted L} (record { link = l; geometry = g; ring = r; next = n; shadows = s }) (record { link = l; geometry = g; ring = r'; next = n; shadows = s' })
   same_host l g n r r' s s' e f = rw (e, f) refl
 
+  -- `seen` is what the call read to make the shadows, and `out` what it left.
+  pumped-sends : (step : Act → Answer → L → Type 0) (before inside : Hosted L) (now : L) (ring : List Act) (a : Act) (n : ℕ) (lent new : List Shadow) (answer : Answer) (seen out : List ℕ)
+      → inside ≡ before → IsAsked inside.geometry a → Some a ≡ slice_get inside.ring 0 → ring ≡ ring_after a (drop 1 inside.ring) (verdict_by a answer) → step a answer now → lent ≡ inside.shadows → length new ≡ n
+      → new ≡ shadows_after inside.geometry (command false a.sqe.bytes) (verdict_by a answer) seen lent
+      → shadows_after inside.geometry (command_of a) (verdict_by a answer) seen inside.shadows ≡ shadows_after inside.geometry (command_of a) (verdict_by a answer) out inside.shadows
+      → Sends step before (record { link = now; geometry = inside.geometry; ring = ring; next = inside.next; shadows = take n (new ++ drop (length new) inside.shadows) }) (pumped (verdict_by a answer)) out
+  pumped-sends step before inside now ring a n lent new answer seen out same asked first rings stepped whole long made left =
+      let shadows = made_back inside.geometry a (verdict_by a answer) n inside.shadows lent new seen asked whole long made ∙ left in
+      let after : Hosted L = record { link = now; geometry = inside.geometry; ring = ring; next = inside.next; shadows = take n (new ++ drop (length new) inside.shadows) } in
+      let sends : Sends step inside after (pumped (verdict_by a answer)) out = record {
+        act = a;
+        rest = drop 1 inside.ring;
+        oldest = oldest inside.ring a first;
+        answer = answer;
+        sent = stepped;
+        result = refl;
+        host = same_host now inside.geometry inside.next ring _ _ _ rings shadows;
+      } in
+      subst (λ (h : Hosted L). Sends step h after (pumped (verdict_by a answer)) out) same sends
+
   pub answered-sends : (step : Act → Answer → L → Type 0) (before inside : Hosted L) (now : L) (popped : List Act) (a : Act) (n : ℕ) (lent new : List Shadow) (answer : List ℕ × ℕ) (given : Result (Option Done) HostErr) (out : List ℕ)
       → inside ≡ before → IsAsked inside.geometry a → Some a ≡ slice_get inside.ring 0 → popped ≡ drop 1 inside.ring → step a (Ok answer) now → given ≡ pumped (verdict_of (cid_of a.sqe.bytes) answer.0 answer.1)
       → lent ≡ inside.shadows → length new ≡ n → new ≡ shadows_after inside.geometry (command false a.sqe.bytes) (verdict_of (cid_of a.sqe.bytes) answer.0 answer.1) out lent
       → Sends step before (record { link = now; geometry = inside.geometry; ring = popped; next = inside.next; shadows = take n (new ++ drop (length new) inside.shadows) }) given out
   answered-sends step before inside now popped a n lent new answer given out same asked first pops stepped gives whole long made =
-      let verdict = verdict_of (cid_of a.sqe.bytes) answer.0 answer.1 in
-      let rest : popped ≡ ring_after a (drop 1 inside.ring) (verdict_of (cid_of a.sqe.bytes) answer.0 answer.1) = pops ∙ sym (answered_ring a (drop 1 inside.ring) (cid_of a.sqe.bytes) answer.0 answer.1) in
-      let shadows : take n (new ++ drop (length new) inside.shadows) ≡ shadows_after inside.geometry (command_of a) (verdict_of (cid_of a.sqe.bytes) answer.0 answer.1) out inside.shadows =
-      lent_back n new inside.shadows long
-      ∙ made
-      ∙ ap (λ (k : Cmd). shadows_after inside.geometry k (verdict_of (cid_of a.sqe.bytes) answer.0 answer.1) out lent) (io_command inside.geometry a asked)
-      ∙ ap (λ (xs : List Shadow). shadows_after inside.geometry (command_of a) (verdict_of (cid_of a.sqe.bytes) answer.0 answer.1) out xs) whole in
-      let after : Hosted L = record { link = now; geometry = inside.geometry; ring = popped; next = inside.next; shadows = take n (new ++ drop (length new) inside.shadows) } in
-      let sends : Sends step inside after given out = record {
-        act = a;
-        rest = drop 1 inside.ring;
-        oldest = oldest inside.ring a first;
-        answer = Ok answer;
-        sent = stepped;
-        result = gives;
-        host = same_host now inside.geometry inside.next popped _ _ _ rest shadows;
-      } in
-      subst (λ (h : Hosted L). Sends step h after given out) same sends
+      rw gives (pumped-sends step before inside now popped a n lent new (Ok answer) out out same asked first (pops ∙ sym (answered_ring a (drop 1 inside.ring) (cid_of a.sqe.bytes) answer.0 answer.1)) stepped whole long made refl)
 
   pub failed-sends : (step : Act → Answer → L → Type 0) (before inside : Hosted L) (now : L) (back : List Act) (a : Act) (n : ℕ) (lent new : List Shadow) (payload out : List ℕ)
       → inside ≡ before → IsAsked inside.geometry a → Some a ≡ slice_get inside.ring 0 → back ≡ a ∷ drop 1 inside.ring → step a (Err payload) now → lent ≡ inside.shadows → length new ≡ n
       → new ≡ shadows_after inside.geometry (command false a.sqe.bytes) (Err error.LinkFault) [] lent
       → Sends step before (record { link = now; geometry = inside.geometry; ring = back; next = inside.next; shadows = take n (new ++ drop (length new) inside.shadows) }) (Err error.LinkFault) out
   failed-sends step before inside now back a n lent new payload out same asked first backs stepped whole long made =
-      let shadows : take n (new ++ drop (length new) inside.shadows) ≡ shadows_after inside.geometry (command_of a) (Err error.LinkFault) out inside.shadows =
-      lent_back n new inside.shadows long
-      ∙ made
-      ∙ ap (λ (k : Cmd). shadows_after inside.geometry k (Err error.LinkFault) [] lent) (io_command inside.geometry a asked)
-      ∙ ap (λ (xs : List Shadow). shadows_after inside.geometry (command_of a) (Err error.LinkFault) [] xs) whole in
-      let after : Hosted L = record { link = now; geometry = inside.geometry; ring = back; next = inside.next; shadows = take n (new ++ drop (length new) inside.shadows) } in
-      let sends : Sends step inside after (Err error.LinkFault) out = record {
-        act = a;
-        rest = drop 1 inside.ring;
-        oldest = oldest inside.ring a first;
-        answer = Err payload;
-        sent = stepped;
-        result = refl;
-        host = same_host now inside.geometry inside.next back _ _ _ backs shadows;
-      } in
-      subst (λ (h : Hosted L). Sends step h after (Err error.LinkFault) out) same sends
+      pumped-sends step before inside now back a n lent new (Err payload) [] out same asked first backs stepped whole long made refl
 
 -- ---- from a told history
 

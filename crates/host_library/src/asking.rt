@@ -1,4 +1,4 @@
-//! The commands of a host: the zone that each is about, and what it makes of the zone's shadow.
+//! The commands of a host: the zone that each is about, and how it changes the zone's shadow.
 ghost use Rattle.std.specs.Prelude.{◌≡◌, ◌<◌, ◌≤◌, Some, IfSome, length};
 ghost use Rattle.host_library.specs.Shadows.{IsShadow, IsInZone};
 ghost use Rattle.host_library.specs.Asking.{zone_at, zone_about, deed_of, shadow_led, shadow_done};
@@ -15,7 +15,7 @@ pub(crate) const QUEUE: u16 = 1;
 /// The bytes of a report of one zone: its head of 64 bytes, and a descriptor.
 pub(crate) const REPORT_LEN: u64 = 128;
 
-/// The codes of Zone Management Send that a host uses.
+/// The Zone Send Actions that a host uses (Zone Management Send command).
 pub(crate) const OPEN: u8 = 0x03;
 
 pub(crate) const RESET: u8 = 0x04;
@@ -34,7 +34,7 @@ fn zone_at(g: &Geometry, lba: u64) -> Option<u32>
     }
 }
 
-/// The zone that a command is about. A write past the namespace is about none.
+/// The zone that a command is about, or `None` for a write past the namespace.
 pub(crate) fn zone_about(g: &Geometry, command: Cmd) -> Option<u32>
     ensures exact { result ≡ zone_about g.now.fields command }
     ensures within { IfSome result (λ zone. zone < g.now.fields.zones) }
@@ -99,8 +99,8 @@ fn shadow_led(g: &Geometry, deed: Option<Deed>, shadow: Shadow) -> Shadow
     }
 }
 
-/// The shadow of a command's zone, after the command succeeded and put what it read at the start of
-/// `out`.
+/// The shadow of a command's zone after the command succeeded. What the command read is at the
+/// start of `out`.
 pub(crate) fn shadow_done(
     g: &Geometry,
     command: Cmd,

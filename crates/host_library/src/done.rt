@@ -1,16 +1,16 @@
-/// The result of a command that a drive has done.
+/// The result of a command that succeeded.
 #[derive(Clone, Copy, Debug, PartialEq, Eq)]
 pub struct Done {
-    /// The number that the command's call returned.
+    /// The command identifier, which the command's call returned.
     pub cid: u16,
 
-    /// The first dword of the result. After an append, the low half of the number of its first
-    /// block.
+    /// Dword 0 of the completion queue entry. After an append, the low 32 bits of the number of its
+    /// first block in the namespace.
     pub dw0: u32,
 
-    /// The second dword of the result. After an append, the high half.
+    /// Dword 1 of the completion queue entry. After an append, the high 32 bits of that number.
     pub dw1: u32,
 
-    /// The number of bytes that the command read, which are at the start of `out`.
+    /// The number of bytes that the command read, at most 128. They are at the start of `out`.
     pub len: u32,
 }

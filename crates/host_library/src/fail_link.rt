@@ -6,9 +6,9 @@ use solo_drive::Solo;
 use sqe_codec::Sqe;
 use zns_io::{Bytes, CallPlan};
 
-/// A link to a drive that it owns, for tests of hosts. The sends whose numbers, from 0, are in a
-/// list fail, and so do those that fail over a `LoopLink`. The link tells its history, which is the
-/// drive's journal. A send that fails serves nothing.
+/// A link to a drive that it owns, for tests of hosts. Sends are counted from 0. Those whose numbers
+/// are in a list fail, and so do those that fail over a [`LoopLink`](crate::LoopLink). The link's
+/// history is the drive's journal. The drive doesn't serve a send that fails.
 #[derive(Drop)]
 pub struct FailLink {
     drive: Solo,

@@ -18,6 +18,7 @@ use zns_types::Geometry;
 use zone_model::Act;
 
 /// A host. Its calls put commands into a ring, and `pump` sends the oldest of them over the link.
+/// Zones are counted from 0, and so are the blocks of the namespace and those of a zone.
 #[derive(Drop)]
 pub struct Host<L: Link> {
     link: L,
@@ -46,8 +47,12 @@ impl<L: Link> Model for Host<L> {
 }
 
 impl<L: Link> Host<L> {
-    /// A host of the drive at the other end of a link. It uses queue 1, its ring has room for as
-    /// many commands as a queue has entries, and every zone is Unknown.
+    /// A host of the drive at the other end of a link. It uses queue 1, its ring holds as many
+    /// commands as a queue has entries (`g.fields.depth`), and every zone is Unknown.
+    ///
+    /// # Errors
+    ///
+    /// `NoMemory` if there is no memory for the ring or for the shadows.
     pub fn new(alloc: Global, link: L, g: Geometry) -> Result<Host<L>, NoMemory>
         requires queues { 2 ≤ g.fields.queues }
         requires geometry { L.geometry link ≡ g.fields }
@@ -65,9 +70,9 @@ impl<L: Link> Host<L> {
         })
     }
 
-    /// What the host knows of a zone. It is known once a report of the zone was done, until a
-    /// command of the zone fails on the link or its entry is torn. If the link tells its history,
-    /// what is known is what the drive has made of the zone.
+    /// What the host knows of a zone. A zone is known from a report of it that succeeded until the
+    /// link fails at a command of the zone, or the command's entry is torn. If the link tells its
+    /// history, what the host knows is true of the drive.
     pub fn shadow(&self, zone: u32) -> Shadow
         requires { zone < self.now.geometry.zones }
         ensures exact { result ≡ shadow_in self.now.shadows zone }

@@ -21,6 +21,3 @@ pub use link::Link;
 pub use loop_link::LoopLink;
 pub use shadow::Shadow;
 pub use stage::Stage;
-
-#[cfg(test)]
-mod tests;

@@ -3,7 +3,7 @@ ghost use Rattle.std.specs.Prelude.{◌≡◌, ℕ, ◌+◌, ◌<◌, ◌≤◌,
 use sqe_codec::Sqe;
 use zns_io::Bytes;
 
-/// A way to a drive.
+/// A connection from a host to a drive.
 pub trait Link: Drop {
     ghost use Rattle.zns_types.specs.declared.fields.GeometryFields.{GeometryFields};
     ghost use Rattle.zns_io.specs.Faults.{Rose};
@@ -12,25 +12,29 @@ pub trait Link: Drop {
     ghost use Rattle.solo_drive.specs.Drives.{HasLengths, act_of};
     ghost use Rattle.host_library.specs.Links.{Answer, Gains, MayGain, IsAnswered};
 
-    /// The numbers of the drive.
+    /// The geometry of the drive.
     ghost geometry: { Self → GeometryFields };
 
-    /// The acts that the drive has served, if the link tells them.
+    /// The acts that the drive has served, oldest first, or `None` if the link doesn't tell them.
     ghost history: { Self → Option (List Act) };
 
     /// The number of sends that failed, up to `u64::MAX`.
     ghost faults: { Self → ℕ };
 
-    /// The number of further sends that are sure not to fail.
+    /// How many of the next sends are sure not to fail. An event request may fail all the same.
     ghost sure: { Self → ℕ };
 
-    /// The outcomes that a send of an act may have: the room before, the answer, the room after,
-    /// and the link that is left.
+    /// What a send of an act may do: the bytes of `out` before, the answer, the bytes of `out`
+    /// after, and the link that is left.
     ghost step: { Self → Act → List ℕ → Answer → List ℕ → Self → Type 0 };
 
-    /// Sends an entry on a queue, with its host data. Returns the first entry that the drive posts
-    /// for it, and the number of bytes that it read, which are at the start of `out`. If the send
-    /// fails, the host data comes back.
+    /// Sends a submission queue entry on a queue, with its host data. Returns the first completion
+    /// queue entry that the drive posts for it, and the number of bytes that the command read, which
+    /// are at the start of `out`.
+    ///
+    /// # Errors
+    ///
+    /// The host data, if the send fails. The drive may have served the command or not.
     fn send(
         &mut self,
         queue: u16,

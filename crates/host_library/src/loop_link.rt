@@ -9,24 +9,24 @@ use solo_drive::Solo;
 use sqe_codec::{Cmd, Sqe, read};
 use zns_io::Bytes;
 
-/// A link to a drive that it owns. It tells its history, which is the drive's journal. It fails
-/// exactly if the drive has no room for one more act, or if the command is an event request, which
-/// could wait for its entry. A send that fails serves nothing.
+/// A link to a drive that it owns. Its history is the drive's journal. A send fails if the drive has
+/// no room for one more act, or if the command is an Asynchronous Event Request, whose entry may
+/// come later; no other send fails. The drive doesn't serve a send that fails.
 #[derive(Drop)]
 pub struct LoopLink {
     drive: Solo,
     faults: u64,
 }
 
-// Whether an entry asks for the next event.
+// Whether an entry is an Asynchronous Event Request.
 fn is_event_request(sqe: &Sqe, admin: bool) -> bool
     ensures { result ≡ is_event_request (command admin sqe.now.bytes) }
 {
     matches!(read(sqe, admin), Cmd::Event)
 }
 
-// Whether a drive can't serve an entry: it has no room for one more act, or the entry asks for the
-// next event.
+// Whether a drive can't serve an entry: it has no room for one more act, or the entry is an
+// Asynchronous Event Request.
 pub(crate) fn cannot_serve(drive: &Solo, sqe: &Sqe, admin: bool) -> bool
     ensures { result
         ≡ ((drive.now.spare == 0) || is_event_request (command admin sqe.now.bytes)) }
@@ -34,7 +34,7 @@ pub(crate) fn cannot_serve(drive: &Solo, sqe: &Sqe, admin: bool) -> bool
     drive.spare() == 0 || is_event_request(sqe, admin)
 }
 
-// The entry that a command posted for itself.
+// The first of the entries that a command posted, which is its own.
 pub(crate) fn own_entry(entries: &ArrayVec<Cqe, 2>) -> Cqe
     requires { 0 < length entries.now.items }
     ensures { slice_get entries.now.items 0 ≡ Some result }

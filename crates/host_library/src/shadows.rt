@@ -27,7 +27,7 @@ const FULL: Shadow = Shadow {
     pointer: 0,
 };
 
-// Whether a zone has a random write area. Bit 3 of its attributes says so if it is active.
+// Whether a zone has a random write area: it is active, and bit 3 of its Zone Attributes is set.
 fn has_window(stage: Stage, attributes: u8) -> bool
     ensures { result ≡ (is_active_stage stage && (attributes / 8 == 1)) }
 {
@@ -115,7 +115,7 @@ impl Shadow {
         }
     }
 
-    /// The shadow after a deed to its zone.
+    /// The shadow after a deed was done to its zone.
     pub(crate) fn after(self, g: &Geometry, deed: Deed) -> Shadow
         requires plain { IsShadow g.now.fields self }
         requires offsets { IsInZone g.now.fields deed }

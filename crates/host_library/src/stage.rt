@@ -3,16 +3,27 @@ ghost use Rattle.host_library.specs.Shadows.{stage_of, is_known};
 
 use zns_types::State;
 
-/// What a host knows of the state of a zone.
+/// What a host knows of the state of a zone. The opened states and Closed are one stage, since the
+/// drive may close an opened zone by itself.
 #[derive(Clone, Copy, Debug, PartialEq, Eq)]
 pub enum Stage {
-    /// No report has told the state, or a command failed since.
+    /// No report has told the state, or since the last one the link failed at a command of the
+    /// zone, or such a command's entry was torn.
     Unknown,
+
+    /// No block is written.
     Empty,
-    /// Opened, implicitly or explicitly, or Closed.
+
+    /// Implicitly Opened, Explicitly Opened or Closed.
     Active,
+
+    /// No block can be written until a reset.
     Full,
+
+    /// Read Only: no block can be written.
     ReadOnly,
+
+    /// No block can be written or read.
     Offline,
 }
 

@@ -8,4 +8,3 @@ pub mod TextSizes
 pub mod Asked
 pub mod Sent
 pub mod Served
-mod ScriptExamples

@@ -11,10 +11,10 @@ use Rattle.text_lines.specs.Decimals.{number_in}
 use Rattle.text_lines.specs.Cuts.{unended, words_in}
 use Rattle.text_lines.proofs.SpelledNumbers.{number_in-decimal}
 use Rattle.text_lines.proofs.Lines.{HasNoFeed, unended-line, line-unended}
-use Rattle.text_lines.proofs.Words.{AreWords, words_in-spaced, spaced-words_in, decimal_is_word, no_feed_in_words}
+use Rattle.text_lines.proofs.Words.{IsWord, AreWords, words_in-spaced, spaced-words_in, decimal_is_word, no_feed_in_words}
 use Rattle.host_script.specs.declared.line.Line.{Line}
 use Rattle.host_script.specs.declared.line.Line.TheVariants as the_line
-use Rattle.host_script.specs.Lines.{IsLine, words_of, line_text, with_one, with_two, with_three, with_four, zone_in, offset_in, blocks_in, byte_in, line_of, line_of_text, line_in}
+use Rattle.host_script.specs.Lines.{IsData, IsLine, words_of, line_text, with_one, with_two, with_three, with_four, zone_in, offset_in, blocks_in, byte_in, line_of, line_of_text, line_in}
 use Rattle.host_script.proofs.NumberWords.{number_spelled, below_spelled, below_decimal, blocks_spelled, blocks_decimal, small_zone}
 
 -- ---- numbers of a line
@@ -65,17 +65,8 @@ record Names (g : GeometryFields) (words : List (List ℕ)) (l : Line) : Type 0 
 names : (g : GeometryFields) (words : List (List ℕ)) (m l : Line) → m ≡ l → words ≡ words_of m → IsLine g m → Names g words l
 names g words m l e same is = let P : Line → Type 0 = Names g words in subst P e (record { same = same; is = is })
 
-two_words : (letter a text n : List ℕ) → letter ≡ text → a ≡ n → letter ∷ a ∷ [] ≡ text ∷ n ∷ []
-two_words letter a text n p q = cc
-
-three_words : (letter a b text n m : List ℕ) → letter ≡ text → a ≡ n → b ≡ m → letter ∷ a ∷ b ∷ [] ≡ text ∷ n ∷ m ∷ []
-three_words letter a b text n m p q r = cc
-
-four_words : (letter a b c text n m k : List ℕ) → letter ≡ text → a ≡ n → b ≡ m → c ≡ k → letter ∷ a ∷ b ∷ c ∷ [] ≡ text ∷ n ∷ m ∷ k ∷ []
-four_words letter a b c text n m k p q r s = cc
-
-five_words : (letter a b c d text n m k j : List ℕ) → letter ≡ text → a ≡ n → b ≡ m → c ≡ k → d ≡ j → letter ∷ a ∷ b ∷ c ∷ d ∷ [] ≡ text ∷ n ∷ m ∷ k ∷ j ∷ []
-five_words letter a b c d text n m k j p q r s t = cc
+same_words : {x y : List ℕ} {xs ys : List (List ℕ)} → x ≡ y → xs ≡ ys → x ∷ xs ≡ y ∷ ys
+same_words e f = rw (e, f) refl
 
 its_letter : (letter text : List ℕ) → bytes_eq letter text ≡ true → letter ≡ text
 its_letter letter text same = (bytes_eq-Decides letter text).0 same
@@ -85,7 +76,7 @@ zone_named : (g : GeometryFields) (letter zone text : List ℕ) (f : ℕ → Lin
 zone_named g letter zone text f l is words valid e =
     let of = one_of f (zone_in g zone) l e in
     let z = below_spelled g.zones zone of.a of.first in
-    names g (letter ∷ zone ∷ []) (f of.a) l of.same (two_words letter zone text (decimal of.a) is z.spelled.same ∙ words of.a) (valid of.a z.below)
+    names g (letter ∷ zone ∷ []) (f of.a) l of.same (same_words is (same_words z.spelled.same refl) ∙ words of.a) (valid of.a z.below)
 
 one_named : (g : GeometryFields) (letter zone : List ℕ) (l : Line) (o r d : Bool) → bytes_eq letter (codes "o") ≡ o → bytes_eq letter (codes "r") ≡ r → bytes_eq letter (codes "d") ≡ d
     → cond o (with_one the_line.Open (zone_in g zone)) (cond r (with_one the_line.Reset (zone_in g zone)) (cond d (with_one the_line.Report (zone_in g zone)) None)) ≡ Some l → Names g (letter ∷ zone ∷ []) l
@@ -100,7 +91,7 @@ two_named g letter zone last l true is e =
     let z = below_spelled g.zones zone of.a of.first in
     let o = below_spelled g.zone_size last of.rest.a of.rest.first in
     names g (letter ∷ zone ∷ last ∷ []) (the_line.Flush of.a of.rest.a) l of.rest.same
-    (three_words letter zone last (codes "f") (decimal of.a) (decimal of.rest.a) (its_letter letter (codes "f") is) z.spelled.same o.spelled.same) (z.below, o.below)
+    (same_words (its_letter letter (codes "f") is) (same_words z.spelled.same (same_words o.spelled.same refl))) (z.below, o.below)
 two_named g letter zone last l false is e = absurd cc
 
 three_named : (g : GeometryFields) (letter place blocks byte : List ℕ) (l : Line) (w a : Bool) → bytes_eq letter (codes "w") ≡ w → bytes_eq letter (codes "a") ≡ a
@@ -111,7 +102,7 @@ three_named g letter place blocks byte l true a is_w is_a e =
     let n = blocks_spelled blocks of.rest.a of.rest.first in
     let b = below_spelled (2 ^ 8) byte of.rest.rest.a of.rest.rest.first in
     names g (letter ∷ place ∷ blocks ∷ byte ∷ []) (the_line.Write of.a of.rest.a of.rest.rest.a) l of.rest.rest.same
-    (four_words letter place blocks byte (codes "w") (decimal of.a) (decimal of.rest.a) (decimal of.rest.rest.a) (its_letter letter (codes "w") is_w) p.same n.spelled.same b.spelled.same)
+    (same_words (its_letter letter (codes "w") is_w) (same_words p.same (same_words n.spelled.same (same_words b.spelled.same refl))))
     (p.small, record { some = n.some; few = n.few; byte = b.below })
 three_named g letter place blocks byte l false true is_w is_a e =
     let of = three_of the_line.Append (zone_in g place) (blocks_in blocks) (byte_in byte) l e in
@@ -119,7 +110,7 @@ three_named g letter place blocks byte l false true is_w is_a e =
     let n = blocks_spelled blocks of.rest.a of.rest.first in
     let b = below_spelled (2 ^ 8) byte of.rest.rest.a of.rest.rest.first in
     names g (letter ∷ place ∷ blocks ∷ byte ∷ []) (the_line.Append of.a of.rest.a of.rest.rest.a) l of.rest.rest.same
-    (four_words letter place blocks byte (codes "a") (decimal of.a) (decimal of.rest.a) (decimal of.rest.rest.a) (its_letter letter (codes "a") is_a) z.spelled.same n.spelled.same b.spelled.same)
+    (same_words (its_letter letter (codes "a") is_a) (same_words z.spelled.same (same_words n.spelled.same (same_words b.spelled.same refl))))
     (z.below, record { some = n.some; few = n.few; byte = b.below })
 three_named g letter place blocks byte l false false is_w is_a e = absurd cc
 
@@ -132,7 +123,7 @@ four_named g letter zone offset blocks byte l true is e =
     let n = blocks_spelled blocks of.rest.rest.a of.rest.rest.first in
     let b = below_spelled (2 ^ 8) byte of.rest.rest.rest.a of.rest.rest.rest.first in
     names g (letter ∷ zone ∷ offset ∷ blocks ∷ byte ∷ []) (the_line.Put of.a of.rest.a of.rest.rest.a of.rest.rest.rest.a) l of.rest.rest.rest.same
-    (five_words letter zone offset blocks byte (codes "p") (decimal of.a) (decimal of.rest.a) (decimal of.rest.rest.a) (decimal of.rest.rest.rest.a) (its_letter letter (codes "p") is) z.spelled.same o.spelled.same n.spelled.same b.spelled.same)
+    (same_words (its_letter letter (codes "p") is) (same_words z.spelled.same (same_words o.spelled.same (same_words n.spelled.same (same_words b.spelled.same refl)))))
     (z.below, o.below, record { some = n.some; few = n.few; byte = b.below })
 four_named g letter zone offset blocks byte l false is e = absurd cc
 
@@ -185,33 +176,26 @@ record FrontWords (l : Line) : Type 0 where
   same : words_of l ≡ word ∷ more
   are : AreWords (word ∷ more)
 
-blocks_small : (n : ℕ) → n ≤ 65536 → n < 2 ^ 64
-blocks_small n few = omega arith
+zone_is_word : (g : GeometryFields) (zone : ℕ) → IsGeometry g → zone < g.zones → IsWord (decimal zone)
+zone_is_word g zone valid lt = decimal_is_word zone (let few = valid.zones.few_zones in omega arith)
+
+offset_is_word : (g : GeometryFields) (offset : ℕ) → IsGeometry g → offset < g.zone_size → IsWord (decimal offset)
+offset_is_word g offset valid lt = decimal_is_word offset (let small = small_zone g valid in omega arith)
+
+data_are_words : (blocks byte : ℕ) → IsData blocks byte → AreWords (decimal blocks ∷ decimal byte ∷ [])
+data_are_words blocks byte is = (decimal_is_word blocks (let few = is.few in omega arith), (decimal_is_word byte (let lt = is.byte in omega arith), tt))
 
 -- each word of a line is a word
 front_words : (g : GeometryFields) (l : Line) → IsGeometry g → IsLine g l → FrontWords l
-front_words g (the_line.Write lba blocks byte) valid is =
-    record { word = codes "w"; more = decimal lba ∷ decimal blocks ∷ decimal byte ∷ []; same = refl; are = (((refl, refl), tt), (decimal_is_word lba is.0, (decimal_is_word blocks (blocks_small blocks is.1.few), (decimal_is_word byte (let lt = is.1.byte in omega arith), tt)))) }
-front_words g (the_line.Append zone blocks byte) valid is =
-    let few = valid.zones.few_zones in
-    record { word = codes "a"; more = decimal zone ∷ decimal blocks ∷ decimal byte ∷ []; same = refl; are = (((refl, refl), tt), (decimal_is_word zone (let lt = is.0 in omega arith), (decimal_is_word blocks (blocks_small blocks is.1.few), (decimal_is_word byte (let lt = is.1.byte in omega arith), tt)))) }
+front_words g (the_line.Write lba blocks byte) valid is = record { word = _; more = _; same = refl; are = (((refl, refl), tt), (decimal_is_word lba is.0, data_are_words blocks byte is.1)) }
+front_words g (the_line.Append zone blocks byte) valid is = record { word = _; more = _; same = refl; are = (((refl, refl), tt), (zone_is_word g zone valid is.0, data_are_words blocks byte is.1)) }
 front_words g (the_line.Put zone offset blocks byte) valid is =
-    let few = valid.zones.few_zones in
-    let small = small_zone g valid in
-    record { word = codes "p"; more = decimal zone ∷ decimal offset ∷ decimal blocks ∷ decimal byte ∷ []; same = refl; are = (((refl, refl), tt), (decimal_is_word zone (let lt = is.0 in omega arith), (decimal_is_word offset (let lt = is.1 in omega arith), (decimal_is_word blocks (blocks_small blocks is.2.few), (decimal_is_word byte (let lt = is.2.byte in omega arith), tt))))) }
-front_words g (the_line.Open zone) valid is =
-    let few = valid.zones.few_zones in
-    record { word = codes "o"; more = decimal zone ∷ []; same = refl; are = (((refl, refl), tt), (decimal_is_word zone (omega arith), tt)) }
+    record { word = _; more = _; same = refl; are = (((refl, refl), tt), (zone_is_word g zone valid is.0, (offset_is_word g offset valid is.1, data_are_words blocks byte is.2))) }
+front_words g (the_line.Open zone) valid is = record { word = _; more = _; same = refl; are = (((refl, refl), tt), (zone_is_word g zone valid is, tt)) }
 front_words g (the_line.Flush zone last) valid is =
-    let few = valid.zones.few_zones in
-    let small = small_zone g valid in
-    record { word = codes "f"; more = decimal zone ∷ decimal last ∷ []; same = refl; are = (((refl, refl), tt), (decimal_is_word zone (let lt = is.0 in omega arith), (decimal_is_word last (let lt = is.1 in omega arith), tt))) }
-front_words g (the_line.Reset zone) valid is =
-    let few = valid.zones.few_zones in
-    record { word = codes "r"; more = decimal zone ∷ []; same = refl; are = (((refl, refl), tt), (decimal_is_word zone (omega arith), tt)) }
-front_words g (the_line.Report zone) valid is =
-    let few = valid.zones.few_zones in
-    record { word = codes "d"; more = decimal zone ∷ []; same = refl; are = (((refl, refl), tt), (decimal_is_word zone (omega arith), tt)) }
+    record { word = _; more = _; same = refl; are = (((refl, refl), tt), (zone_is_word g zone valid is.0, (offset_is_word g last valid is.1, tt))) }
+front_words g (the_line.Reset zone) valid is = record { word = _; more = _; same = refl; are = (((refl, refl), tt), (zone_is_word g zone valid is, tt)) }
+front_words g (the_line.Report zone) valid is = record { word = _; more = _; same = refl; are = (((refl, refl), tt), (zone_is_word g zone valid is, tt)) }
 
 -- a line's text before its line feed has none
 pub no_feed_in_line : (g : GeometryFields) (l : Line) → IsGeometry g → IsLine g l → HasNoFeed (spaced (words_of l))

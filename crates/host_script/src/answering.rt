@@ -99,7 +99,7 @@ fn put_done(
     read: &[u8],
 ) -> Result<(), NoMemory>
     requires line { IsLine g.now.fields line }
-    requires room { length read.now ≡ 128 }
+    requires whole { length read.now ≡ 128 }
     ensures { OnOk result (string_bytes text.new ≡ string_bytes text.old
         ++ done_line g.now.fields line (done.dw0 + 2 ^ 32 * done.dw1) read.now) }
 {
@@ -137,7 +137,7 @@ pub(crate) fn put_outcome(
     read: &[u8],
 ) -> Result<(), NoMemory>
     requires line { IsLine g.now.fields line }
-    requires room { length read.now ≡ 128 }
+    requires whole { length read.now ≡ 128 }
     ensures { OnOk result (string_bytes text.new ≡ string_bytes text.old
         ++ outcome_line g.now.fields line outcome read.now) }
 {

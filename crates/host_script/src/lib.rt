@@ -1,4 +1,4 @@
-//! The scripts of a host: what they are, how they are read, and what a drive answers to them.
+//! Scripts of a host's calls: how they are read, and what a drive answers to them.
 #![tactic(auto)]
 
 mod answering;
@@ -13,6 +13,3 @@ pub use line::Line;
 pub use reading::read;
 pub use script::Script;
 pub use serving::serve;
-
-#[cfg(test)]
-mod tests;

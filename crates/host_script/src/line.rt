@@ -3,24 +3,25 @@ ghost use Rattle.host_script.specs.Lines.{IsLine, blocks_of, byte_of, data_len};
 
 use zns_types::Geometry;
 
-/// A line of a script: one command of a host. Its data is `blocks` blocks that repeat `byte`.
+/// A line of a script: one command of a host. Its host data is `blocks` blocks, 1 to 65,536, whose
+/// bytes are all `byte`. Zones are counted from 0, and offsets are in blocks from a zone's start.
 #[derive(Clone, Copy, Debug, PartialEq, Eq)]
 pub enum Line {
-    /// Write data from the block `lba` of the namespace on.
+    /// `w`: Write from the block `lba` of the namespace on.
     Write {
         lba: u64,
         blocks: u32,
         byte: u8,
     },
 
-    /// Append data to a zone.
+    /// `a`: Zone Append.
     Append {
         zone: u32,
         blocks: u32,
         byte: u8,
     },
 
-    /// Write data into a zone's random write area, from the offset `offset` in the zone on.
+    /// `p`: Write into a zone's random write area, from the offset `offset` on.
     Put {
         zone: u32,
         offset: u64,
@@ -28,30 +29,30 @@ pub enum Line {
         byte: u8,
     },
 
-    /// Open a zone with a random write area.
+    /// `o`: open a zone with a random write area.
     Open {
         zone: u32,
     },
 
-    /// Commit a zone's random write area, up to the block at the offset `last`.
+    /// `f`: commit a zone's random write area, up to the block at the offset `last`.
     Flush {
         zone: u32,
         last: u64,
     },
 
-    /// Reset a zone.
+    /// `r`: reset a zone.
     Reset {
         zone: u32,
     },
 
-    /// Report a zone.
+    /// `d`: report a zone.
     Report {
         zone: u32,
     },
 }
 
 impl Line {
-    // The number of blocks of its data.
+    // The number of blocks of its host data.
     fn blocks(self) -> u32
         ensures { result ≡ blocks_of self }
     {
@@ -63,7 +64,7 @@ impl Line {
         }
     }
 
-    /// The byte that its data repeats, or 0 if it has no data.
+    /// The byte that its host data repeats, or 0 if it has none.
     pub fn byte(self) -> u8
         ensures { result ≡ byte_of self }
     {
@@ -73,7 +74,7 @@ impl Line {
         }
     }
 
-    /// The length of its data, in bytes.
+    /// The length of its host data, in bytes.
     pub fn data_len(self, g: &Geometry) -> u32
         requires { IsLine g.now.fields self }
         ensures exact { result ≡ data_len g.now.fields self }

@@ -48,8 +48,8 @@ fn bad(reason: Reason, offset: usize) -> FileErr
     }
 }
 
-// Checks that a session's header is a script's: a host needs two queues, and commands come as
-// lines.
+// Checks what a script's header has to keep beyond a session's: there are at least two queues, and
+// no commands follow, since a script has lines in their place.
 #[tactic(auto, unfolding(crate::specs::ScriptRules::host_rows))]
 fn check_header(bytes: &[u8], header: &Header) -> Result<(), FileErr>
     requires geometry { header.now.geometry.fields ≡ geometry_in bytes.now }
@@ -66,7 +66,7 @@ fn check_header(bytes: &[u8], header: &Header) -> Result<(), FileErr>
     Ok(())
 }
 
-// The line of a text and the progress after it, or the first of its rules that is broken.
+// The line that a text spells and the progress after it, or the first rule that the text breaks.
 #[tactic(auto, unfolding(crate::specs::ScriptRules::line_rows))]
 fn check_line(
     alloc: Global,
@@ -137,7 +137,12 @@ fn read_lines(alloc: Global, g: &Geometry, bytes: &[u8]) -> Result<Vec<Line>, Fi
     Ok(lines)
 }
 
-/// Reads a script from its bytes. An error names the first rule that is broken.
+/// Reads a script from its bytes.
+///
+/// # Errors
+///
+/// `Bad` or `Large` for the first rule of a script that the bytes break, with its place or its
+/// number, or `NoMemory` if there is no memory for the lines.
 pub fn read(alloc: Global, bytes: &[u8]) -> Result<Script, FileErr>
     ensures script { IfOk result IsScript }
     ensures spelled { IfOk result (λ s. bytes.now ≡ script_text s) }

@@ -5,8 +5,8 @@ use crate::line::Line;
 use std::marker::Model;
 use zns_types::Geometry;
 
-/// A drive's geometry and the lines of a script, as one file can hold them: the drive has at least
-/// two queues, and there are at most 262,144 lines, which send at most 2^27 bytes together.
+/// A script: the geometry of a drive with at least two queues, and at most 262,144 lines, whose host
+/// data is at most 2^27 bytes in all.
 #[derive(Drop)]
 pub struct Script {
     geometry: Geometry,
@@ -27,7 +27,7 @@ impl Model for Script {
 }
 
 impl Script {
-    /// The script of these lines on a drive.
+    /// The script of these lines for a drive.
     pub fn new(geometry: Geometry, lines: Vec<Line>) -> Script
         requires { IsScript (record { geometry = geometry.fields; lines = lines.items }) }
         ensures { result ≡ record { geometry = geometry.fields; lines = lines.items } }
@@ -35,7 +35,7 @@ impl Script {
         Script { geometry, lines }
     }
 
-    /// The drive and the lines.
+    /// The drive's geometry and the lines.
     pub fn into_parts(self) -> (Geometry, Vec<Line>)
         ensures geometry { result.0.fields ≡ self.geometry }
         ensures lines { result.1.items ≡ self.lines }

@@ -1,4 +1,4 @@
-//! Serving a script: each line is one command, which is sent and answered before the next.
+//! Serving a script: each line's command is sent and answered before the next line's.
 ghost use Rattle.std.specs.Prelude.{◌≡◌, ◌+◌, ◌<◌, ◌≤◌, ◌++◌, [], ◌∷◌, All, IfOk, OnOk, length};
 ghost use Rattle.std.specs.String.{string_bytes};
 ghost use Rattle.zone_model.specs.declared.act.Act.{Act};
@@ -17,7 +17,7 @@ use std::alloc::Global;
 use zns_io::{Bytes, NoMemory};
 use zns_types::{Code, Geometry};
 
-// Puts the command of a line into the empty ring, so that it gets a number.
+// Puts the command of a line into the ring, which is empty and so has room for it.
 fn ask(alloc: Global, host: &mut Host<LoopLink>, g: &Geometry, line: Line) -> Result<(), NoMemory>
     requires geometry { host.old.geometry ≡ g.now.fields }
     requires line { IsLine g.now.fields line }
@@ -52,7 +52,7 @@ fn outcome_of(answer: &Result<Option<Done>, HostErr>) -> Result<Done, Code>
 // Sends the one command that waits. The drive has room for it, so it is answered.
 fn send(host: &mut Host<LoopLink>, out: &mut [u8; 128]) -> Result<Done, Code>
     requires waits { length host.old.ring ≡ 1 }
-    requires room { 0 < host.old.link.drive.spare }
+    requires spare { 0 < host.old.link.drive.spare }
     ensures { (act : Act) → host.old.ring ≡ act ∷ []
         → IsSent host.old host.new act result out.new }
 {
@@ -70,11 +70,11 @@ fn serve_line(
 ) -> Result<(), NoMemory>
     requires geometry { host.old.geometry ≡ g.now.fields }
     requires idle { IsIdle host.old }
-    requires room { 0 < host.old.link.drive.spare }
+    requires spare { 0 < host.old.link.drive.spare }
     requires line { IsLine g.now.fields line }
     ensures geometry { OnOk result (host.new.geometry ≡ host.old.geometry) }
     ensures idle { OnOk result (IsIdle host.new) }
-    ensures room { OnOk result (host.old.link.drive.spare ≤ host.new.link.drive.spare + 1) }
+    ensures spare { OnOk result (host.old.link.drive.spare ≤ host.new.link.drive.spare + 1) }
     ensures acts { OnOk result (acts_of_host host.new ≡ acts_of_host host.old
         ++ act_of_line g.now.fields (length (acts_of_host host.old)) line ∷ []) }
     ensures text { OnOk result (string_bytes text.new ≡ string_bytes text.old
@@ -97,7 +97,7 @@ fn serve_lines(
     requires geometry { host.old.geometry ≡ g.now.fields }
     requires idle { IsIdle host.old }
     requires fresh { acts_of_host host.old ≡ [] }
-    requires room { length lines.items ≤ host.old.link.drive.spare }
+    requires spare { length lines.items ≤ host.old.link.drive.spare }
     requires lines { All (IsLine g.now.fields) lines.items }
     ensures { IfOk result (λ text. string_bytes text ≡ scripted g.now.fields lines.items) }
 {
@@ -108,8 +108,12 @@ fn serve_lines(
     Ok(text)
 }
 
-/// The answers of a new drive to the lines of a script, as a line of text for each. The drive has
-/// room for all of them, so no send fails.
+/// Serves the lines of a script on a new drive, and returns the answers as text, a line for each.
+/// The drive has room for all of the commands, so no send fails.
+///
+/// # Errors
+///
+/// `NoMemory` if there is no memory for the drive, for host data or for the text.
 pub fn serve(alloc: Global, script: Script) -> Result<Bytes, NoMemory>
     ensures { IfOk result (λ text. text ≡ scripted script.geometry script.lines) }
 {

@@ -45,9 +45,12 @@ impl<L: Link> Host<L> {
         }
     }
 
-    /// Puts a write at the ring's back, of 1 to 65,536 whole blocks from the block `lba` on.
-    /// Returns the number that the command gets; the numbers count up from 0 and wrap. If the ring
-    /// is full, the host data comes back.
+    /// Puts a Write at the ring's back, of 1 to 65,536 whole blocks from the namespace's block `lba`
+    /// on. Returns the command identifier. Identifiers count up from 0, and 0 follows 65,535.
+    ///
+    /// # Errors
+    ///
+    /// `RingFull` with the host data if the ring is full. The host then stays as it was.
     pub fn write(&mut self, lba: u64, payload: Bytes) -> Result<u16, HostErr>
         requires { IsData self.old.geometry payload }
         ensures result { result ≡ put_gives self.old payload }
@@ -65,8 +68,12 @@ impl<L: Link> Host<L> {
         )
     }
 
-    /// Puts an append to a zone at the ring's back, of 1 to 65,536 whole blocks. Its first block's
-    /// number comes with `Done`. Returns what `write` returns.
+    /// Puts a Zone Append at the ring's back, of 1 to 65,536 whole blocks. The number of its first
+    /// block comes with `Done`. Returns the command identifier.
+    ///
+    /// # Errors
+    ///
+    /// `RingFull` with the host data if the ring is full. The host then stays as it was.
     pub fn append(&mut self, zone: u32, payload: Bytes) -> Result<u16, HostErr>
         requires zone { zone < self.old.geometry.zones }
         requires payload { IsData self.old.geometry payload }
@@ -86,15 +93,19 @@ impl<L: Link> Host<L> {
         )
     }
 
-    /// Puts a write into a zone's random write area at the ring's back, of 1 to 65,536 whole blocks
-    /// from the offset `offset` in the zone on. Returns what `write` returns.
+    /// Puts a Write into a zone's random write area at the ring's back, of 1 to 65,536 whole blocks.
+    /// The first is `offset` blocks after the zone's start. Returns the command identifier.
+    ///
+    /// # Errors
+    ///
+    /// `RingFull` with the host data if the ring is full. The host then stays as it was.
     pub fn window_put(&mut self, zone: u32, offset: u64, payload: Bytes) -> Result<u16, HostErr>
         requires zone { zone < self.old.geometry.zones }
         requires offset { offset < self.old.geometry.zone_size }
         requires payload { IsData self.old.geometry payload }
         ensures result { result ≡ put_gives self.old payload }
-        ensures host { self.new ≡ after_put self.old (put_at self.old.geometry zone offset payload)
-            payload }
+        ensures host { self.new
+            ≡ after_put self.old (put_at self.old.geometry zone offset payload) payload }
     {
         let lba = self.geometry.first(zone) + offset;
         self.write(lba, payload)
@@ -119,19 +130,29 @@ impl<L: Link> Host<L> {
         )
     }
 
-    /// Puts an open of a zone with a random write area at the ring's back. Returns what `write`
-    /// returns, but no host data comes back.
+    /// Puts an Open of a zone with a random write area at the ring's back (Zone Management Send).
+    /// Returns the command identifier.
+    ///
+    /// # Errors
+    ///
+    /// `RingFull` if the ring is full. The host then stays as it was.
     pub fn open_window(&mut self, zone: u32) -> Result<u16, HostErr>
         requires { zone < self.old.geometry.zones }
         ensures result { result ≡ put_gives self.old [] }
-        ensures host { self.new ≡ after_put self.old (open_with_window self.old.geometry zone) [] }
+        ensures host { self.new
+            ≡ after_put self.old (open_with_window self.old.geometry zone) [] }
     {
         let slba = self.geometry.first(zone);
         self.send(slba, OPEN, true)
     }
 
-    /// Puts a commit of a zone's random write area at the ring's back, up to the block at the
-    /// offset `last`. Returns what `open_window` returns.
+    /// Puts a commit of a zone's random write area at the ring's back (Zone Management Send). The
+    /// last block to be committed is `last` blocks after the zone's start. Returns the command
+    /// identifier.
+    ///
+    /// # Errors
+    ///
+    /// `RingFull` if the ring is full. The host then stays as it was.
     pub fn flush_to(&mut self, zone: u32, last: u64) -> Result<u16, HostErr>
         requires zone { zone < self.old.geometry.zones }
         requires offset { last < self.old.geometry.zone_size }
@@ -142,7 +163,12 @@ impl<L: Link> Host<L> {
         self.send(slba, COMMIT, false)
     }
 
-    /// Puts a reset of a zone at the ring's back. Returns what `open_window` returns.
+    /// Puts a Reset of a zone at the ring's back (Zone Management Send). Returns the command
+    /// identifier.
+    ///
+    /// # Errors
+    ///
+    /// `RingFull` if the ring is full. The host then stays as it was.
     pub fn reset(&mut self, zone: u32) -> Result<u16, HostErr>
         requires { zone < self.old.geometry.zones }
         ensures result { result ≡ put_gives self.old [] }
@@ -152,8 +178,12 @@ impl<L: Link> Host<L> {
         self.send(slba, RESET, false)
     }
 
-    /// Puts a report of one zone at the ring's back, of 128 bytes. Returns what `open_window`
-    /// returns.
+    /// Puts a report of one zone at the ring's back (Zone Management Receive). It reads 128 bytes:
+    /// the report's head of 64 and the zone's descriptor of 64. Returns the command identifier.
+    ///
+    /// # Errors
+    ///
+    /// `RingFull` if the ring is full. The host then stays as it was.
     pub fn report(&mut self, zone: u32) -> Result<u16, HostErr>
         requires { zone < self.old.geometry.zones }
         ensures result { result ≡ put_gives self.old [] }

@@ -34,13 +34,17 @@ fn put_back(ring: &mut HeapCircularBuffer<Act>, queue: u16, sqe: Sqe, payload: B
 }
 
 impl<L: Link> Host<L> {
-    /// Sends the oldest command once. Returns what the drive gave, with the bytes that the command
-    /// read at the start of `out`, which has room for 128; or `None` if no command waits.
+    /// Sends the oldest command once. Returns its result, or `None` if no command waits. The bytes
+    /// that the command read are at the start of `out`, which has at least 128 bytes. The command
+    /// leaves the ring, and its zone's shadow changes as the drive changes the zone.
     ///
-    /// If the link fails, the command stays the oldest, and the zone that it is about becomes
-    /// Unknown. A torn or refused command leaves the ring; a torn one makes its zone Unknown, and a
-    /// refused one doesn't change the shadow. Any other command changes its zone's shadow as the
-    /// drive changes the zone.
+    /// # Errors
+    ///
+    /// - `LinkFault` if the link fails. The command stays the oldest, and its zone becomes Unknown.
+    /// - `Torn` if the command's entry is torn. The command leaves the ring, and its zone becomes
+    ///   Unknown.
+    /// - `Refused` if the drive refuses the command. The command leaves the ring, and the shadow
+    ///   stays as it was.
     pub fn pump(&mut self, out: &mut [u8]) -> Result<Option<Done>, HostErr>
         requires room { 128 ≤ length out.old }
 

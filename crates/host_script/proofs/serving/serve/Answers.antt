@@ -25,8 +25,8 @@ serve_lines-requires-clause-fresh c =
     let drive : c.in_ok-host.host.link.drive ≡ c.in_ok-drive.drive = ap (λ (h : Hosted LoopLink). h.link.drive) c.in_ok-host.ensures ∙ ap (λ (k : LoopLink). k.drive) c.new-2.ensures in
     ap (λ (d : Drive). d.acts) (drive ∙ c.in_ok-drive.ensures)
 
-pub serve_lines-requires-clause-room : goal.serve_lines-requires-clause-room
-serve_lines-requires-clause-room c =
+pub serve_lines-requires-clause-spare : goal.serve_lines-requires-clause-spare
+serve_lines-requires-clause-spare c =
     let drive : c.in_ok-host.host.link.drive ≡ c.in_ok-drive.drive = ap (λ (h : Hosted LoopLink). h.link.drive) c.in_ok-host.ensures ∙ ap (λ (k : LoopLink). k.drive) c.new-2.ensures in
     let spare : c.in_ok-host.host.link.drive.spare ≡ c.len.result = ap (λ (d : Drive). d.spare) (drive ∙ c.in_ok-drive.ensures) in
     first_of (omega (arith, spare, c.len.ensures), grind (arith, common_steps, spare, c.len.ensures))

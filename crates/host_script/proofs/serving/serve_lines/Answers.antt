@@ -12,7 +12,7 @@ loop-line-init c =
       geometry = c.requires.geometry;
       idle = c.requires.idle;
       count = ap (λ (acts : List Act). length acts) c.requires.fresh;
-      room = omega (arith, c.requires.room);
+      spare = omega (arith, c.requires.spare);
       text = rw c.new-text.ensures.bytes (none_written g (acts_of_host c.args.host.now) c.requires.fresh).whole;
       more = λ rest. rw c.new-text.ensures.bytes ((none_written g (acts_of_host c.args.host.now) c.requires.fresh).more rest);
     }
@@ -30,7 +30,7 @@ loop-line-preserved c =
       geometry = e.geometry ∙ all.geometry;
       idle = e.idle;
       count = ap (λ (h : List Act). length h) e.acts ∙ length-append acts (act_of_line g (length acts) line ∷ []) ∙ ap (λ n. n + 1) all.count ∙ sym (length-append given (line ∷ []));
-      room = omega (arith, e.room, all.room, length-append given (line ∷ []));
+      spare = omega (arith, e.spare, all.spare, length-append given (line ∷ []));
       text = all_written g (acts_of_host c.serve_line.new.host) (given ++ line ∷ []) _ more;
       more = more;
     }

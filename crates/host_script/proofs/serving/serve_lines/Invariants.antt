@@ -12,7 +12,7 @@ invariant-loop-line l = record {
   geometry : l.host.geometry ≡ l.g.fields;
   idle : IsIdle l.host;
   count : length (acts_of_host l.host) ≡ length l.yielded;
-  room : length l.fn.lines.items ≤ l.host.link.drive.spare + length l.yielded;
+  spare : length l.fn.lines.items ≤ l.host.link.drive.spare + length l.yielded;
   text : string_bytes l.text ≡ scripted l.g.fields l.yielded;
   more : (rest : List Line) → string_bytes l.text ++ scripted_after l.g.fields (answered l.g.fields (acts_of_host l.host)) (length l.yielded) rest ≡ scripted_after l.g.fields [] 0 (l.yielded ++ rest);
 }

@@ -18,12 +18,4 @@ returns-clause-same c =
     ∙ ap (line_of_text g) c.in-Some.ensures
 
 pub returns-clause-exactly : goal.returns-clause-exactly
-unfolding line_in
-returns-clause-exactly c =
-    let g = c.args.g.now.fields in
-    let same : c.line_of.result ≡ line_in g c.args.text.now =
-    c.line_of.ensures
-    ∙ rw c.deref.ensures.value (ap (line_of g) c.in_ok-words.ensures)
-    ∙ first_words g (words_in c.in-Some.text.now)
-    ∙ ap (line_of_text g) c.in-Some.ensures in
-    exactly g c.args.text.now c.line_of.result c.args.g.now.valid same
+returns-clause-exactly c = exactly c.args.g.now.fields c.args.text.now c.line_of.result c.args.g.now.valid (returns-clause-same c)

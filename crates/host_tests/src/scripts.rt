@@ -1,4 +1,4 @@
-use crate::{read, serve};
+use host_script::{read, serve};
 use session_file::{FileErr, Reason, Which};
 use std::alloc::Global;
 use std::test::Fail;
