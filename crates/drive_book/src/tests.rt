@@ -7,25 +7,18 @@ use sqe_codec::{Cmd, write};
 use std::process::Abort;
 use std::test::Fail;
 use zns_io::Bytes;
-use zns_types::{Code, Geometry, GeometryFields};
+use zns_types::{Code, Geometry, GeometryFields, SMALL_DRIVE};
 use zone_model::Act;
 
 // Two queues of two entries each.
 const FIELDS: GeometryFields = GeometryFields {
-    block_exp: 9,
-    mdts: 0,
-    zasl: 0,
-    flags: 0,
-    zones: 4,
-    zone_size: 64,
-    capacity: 48,
     active_limit: 0,
     open_limit: 0,
     windows: 0,
     granule: 0,
     window: 0,
-    queues: 2,
     depth: 2,
+    ..SMALL_DRIVE
 };
 
 const DONE: Code = Code::SUCCESS;

@@ -1,27 +1,10 @@
 use super::*;
 use std::test::Fail;
-use zns_types::{Geometry, GeometryFields};
-
-const SMALL: GeometryFields = GeometryFields {
-    block_exp: 9,
-    mdts: 0,
-    zasl: 0,
-    flags: 0,
-    zones: 4,
-    zone_size: 64,
-    capacity: 48,
-    active_limit: 3,
-    open_limit: 2,
-    windows: 1,
-    granule: 4,
-    window: 8,
-    queues: 2,
-    depth: 64,
-};
+use zns_types::{Geometry, GeometryFields, SMALL_DRIVE};
 
 #[test]
 fn pages_hold_their_fields(rt: HostRuntime) -> Result<(), Fail> {
-    let g = Geometry::new(SMALL)?;
+    let g = Geometry::new(SMALL_DRIVE)?;
     let mut page = vec![in rt.alloc(); 0xff; 4096]?;
     let out = page.as_mut_slice();
     let rows = [
@@ -66,7 +49,7 @@ fn pages_hold_their_fields(rt: HostRuntime) -> Result<(), Fail> {
 
 #[test]
 fn no_limit_is_all_ones(rt: HostRuntime) -> Result<(), Fail> {
-    let mut fields = SMALL;
+    let mut fields = SMALL_DRIVE;
     fields.active_limit = 0;
     fields.open_limit = 0;
     let g = Geometry::new(fields)?;
@@ -90,7 +73,10 @@ fn no_limit_is_all_ones(rt: HostRuntime) -> Result<(), Fail> {
 fn the_zoned_controller_shows_one_byte(rt: HostRuntime) -> Result<(), Fail> {
     let mut page = vec![in rt.alloc(); 0xff; 4096]?;
     for zasl in [0, 3, 16] {
-        let g = Geometry::new(GeometryFields { zasl, ..SMALL })?;
+        let g = Geometry::new(GeometryFields {
+            zasl,
+            ..SMALL_DRIVE
+        })?;
         assert_eq!(rt; fill(0x06, 0x02, &g, &mut page), Ok(()));
         let wanted = Some((&zasl, [0; 4095].as_slice()));
         assert_eq!(rt; page.split_first(), wanted);

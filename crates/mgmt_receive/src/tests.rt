@@ -5,25 +5,17 @@ use super::*;
 use std::alloc::Global;
 use std::test::Fail;
 use zns_io::NoMemory;
-use zns_types::{Geometry, GeometryFields};
+use zns_types::{Geometry, GeometryFields, SMALL_DRIVE};
 use zone_cell::ZoneCell;
 use zone_state::{Action, go};
 
 const SMALL: GeometryFields = GeometryFields {
-    block_exp: 9,
-    mdts: 0,
-    zasl: 0,
-    flags: 0,
-    zones: 4,
-    zone_size: 64,
-    capacity: 48,
     active_limit: 0,
     open_limit: 0,
     windows: 0,
     granule: 0,
     window: 0,
-    queues: 2,
-    depth: 64,
+    ..SMALL_DRIVE
 };
 
 // A report of all zones, in 320 bytes.

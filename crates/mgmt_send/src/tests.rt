@@ -7,28 +7,10 @@ ghost use Rattle.mgmt_send.specs.Acting.{first_zone, AreRising};
 use super::*;
 use sqe_codec::Cmd;
 use std::test::Fail;
-use zns_types::{Code, Geometry, GeometryFields, State};
+use zns_types::{Code, Geometry, SMALL_DRIVE, State};
 use zone_cell::ZoneCell;
 use zone_limits::Limits;
 use zone_room::use_of;
-
-// Four zones, two of which may be opened.
-const SMALL: GeometryFields = GeometryFields {
-    block_exp: 9,
-    mdts: 0,
-    zasl: 0,
-    flags: 0,
-    zones: 4,
-    zone_size: 64,
-    capacity: 48,
-    active_limit: 3,
-    open_limit: 2,
-    windows: 1,
-    granule: 4,
-    window: 8,
-    queues: 2,
-    depth: 64,
-};
 
 // The action codes of a Send.
 const CLOSE: u8 = 0x01;
@@ -154,7 +136,7 @@ fn status_of(cells: &mut [ZoneCell], limits: &mut Limits, g: &Geometry, step: St
 
 #[test]
 fn sends_go_to_one_zone_and_to_all(rt: HostRuntime) -> Result<(), Fail> {
-    let g = Geometry::new(SMALL)?;
+    let g = Geometry::new(SMALL_DRIVE)?;
     let alloc = rt.alloc();
     let mut cells = [
         ZoneCell::new(alloc, &g, 0)?,

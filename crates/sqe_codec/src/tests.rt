@@ -3,7 +3,7 @@ ghost use Rattle.sqe_codec.specs.Ranges.{IsWritable};
 
 use super::*;
 use std::process::Abort;
-use zns_types::{Geometry, GeometryFields};
+use zns_types::{Geometry, GeometryFields, SMALL_DRIVE};
 
 const ALL: u32 = u32::MAX;
 
@@ -355,18 +355,7 @@ fn ignored_bits(rt: HostRuntime) {
 const FIELDS: GeometryFields = GeometryFields {
     block_exp: 12,
     mdts: 1,
-    zasl: 0,
-    flags: 0,
-    zones: 4,
-    zone_size: 64,
-    capacity: 48,
-    active_limit: 3,
-    open_limit: 2,
-    windows: 1,
-    granule: 4,
-    window: 8,
-    queues: 2,
-    depth: 64,
+    ..SMALL_DRIVE
 };
 
 // A row has the number of bytes that an entry brings and the number it asks for, with that limit

@@ -6,9 +6,9 @@ ghost use Rattle.zone_cell.specs.Cells.{IsOf, IsBlocks, fresh, after_reset, in_s
 use crate::laying::lay;
 use std::alloc::Global;
 use std::marker::Model;
+use written_blocks::Written;
 use zns_io::NoMemory;
 use zns_types::{Geometry, State};
-use written_blocks::Written;
 
 /// One zone: its state, its write pointer, and the blocks written since its last reset.
 #[derive(Drop)]
